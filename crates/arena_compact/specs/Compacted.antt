@@ -1,5 +1,5 @@
 -- What a compaction leaves.
-use Rattle.std.specs.Prelude.{◌≡◌, ℕ, ◌<◌, ◌≤◌, ◌==◌, ℤ, ◌≤ℤ◌, int_le, cond, List, [], ◌∷◌, length, map, get_or, All, Contains}
+use Rattle.std.specs.Prelude.{◌≡◌, ℕ, ◌+◌, ◌*◌, ◌<◌, ◌≤◌, ◌==◌, ℤ, ◌≤ℤ◌, int_le, cond, List, [], ◌∷◌, length, map, get_or, All, Contains}
 use Rattle.std.specs.List.{flat_map}
 use Rattle.cer_base.specs.declared.node.Stamp.{Stamp}
 use Rattle.cer_base.specs.declared.node.Root.{Root}
@@ -14,7 +14,7 @@ use Rattle.union_lists.specs.Lists.{trees, IsUnionList}
 use Rattle.arena_compact.specs.Pruned.{pruned, ArePruned}
 use Rattle.arena_compact.specs.Marks.{Needs}
 use Rattle.arena_compact.specs.Moves.{later}
-use Rattle.arena_compact.specs.Roots.{ids_of, kept_rows}
+use Rattle.arena_compact.specs.Roots.{ids_of, places, kept_rows}
 
 -- the lower one of a clock and a cursor's, which counts only while something is left on its stack
 abbrev pub lower_of : ℤ → ℤ → List Pending → ℤ
@@ -94,3 +94,10 @@ pub record AreCompacted (query : ℕ) (low : ℤ) (old new : List Node) (keys ke
   pub nodes : Compacted query low old new keys_new ws_new
   pub lists : KeysCompacted (least_of query low ws) low old new keys keys_new
   pub cursors : (k : ℕ) (d : CursorState) → k < length ws → CursorCompacted query old new (get_or ws k d) (get_or ws_new k d)
+  pub count : length ws_new ≡ length ws
+
+-- A compaction with its steps: at most eight for each node and four for each entry, at least one for each entry and three more for each that stays.
+pub record IsCompaction (query : ℕ) (low : ℤ) (old new : List Node) (keys keys_new : List (List (ℕ × List Root))) (ws ws_new : List CursorState) (before now : ℕ) : Type 0 where
+  pub compacted : AreCompacted query low old new keys keys_new ws ws_new
+  pub steps : now ≤ before + 8 * length old + 4 * places keys
+  pub counted : places keys + 3 * places keys_new + before ≤ now

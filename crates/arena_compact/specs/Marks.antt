@@ -1,11 +1,11 @@
 -- Which nodes a compaction keeps, and from which clock on each is needed.
-use Rattle.std.specs.Prelude.{◌≡◌, ℕ, ◌<◌, ◌≤◌, ℤ, ◌≤ℤ◌, pos, int_le, true, List, [], ◌∷◌, length, map, get_or, Option, Some, None, slice_get, Contains, All}
+use Rattle.std.specs.Prelude.{◌≡◌, ℕ, ◌<◌, ◌≤◌, ◌++◌, ℤ, ◌≤ℤ◌, pos, int_le, true, List, [], ◌∷◌, length, map, get_or, Option, Some, None, slice_get, Contains, All}
 use Rattle.std.specs.Prelude.{slice_set as set}
 use Rattle.cer_base.specs.declared.node.Stamp.{Stamp}
 use Rattle.cer_base.specs.declared.node.Node.{Node}
 use Rattle.cer_base.specs.declared.node.Node.TheVariants.{Bottom, Output, Union}
 use Rattle.cer_base.specs.Members.{newest}
-use Rattle.cer_base.specs.Nodes.{tree}
+use Rattle.cer_base.specs.Nodes.{tree, WellFormed}
 
 -- The node is needed from the clock on: it is reached from the roots by no right child that is too old for it.
 pub data Needs (low : ℤ) (nodes : List Node) (roots : List ℕ) : ℕ → Type 0 where
@@ -51,6 +51,27 @@ pub record AreNodeMarks (nodes : List Node) (roots : List (ℕ × ℤ)) (from : 
   pub recent : (id : ℕ) → IsKept table id → low_of lows id ≤ℤ (newest (tree nodes id)).clock
   pub needed : (id : ℕ) → IsKept table id → IsNeededFrom (low_of lows id) nodes roots id
   pub rooted : All (λ (r : ℕ × ℤ). IsKeptFrom table lows r.1 r.0) roots
+
+-- The ids are in the table, as this says of its length, and there are as many clocks as places.
+pub record CanKeep (Inside : ℕ → Type 0) (table : List (Option ℕ)) (lows : List ℤ) : Type 0 where
+  pub inside : Inside (length table)
+  pub even : length lows ≡ length table
+
+-- The nodes are well-formed, with a place in the table and a clock for each.
+pub record CanMark (nodes : List Node) (table : List (Option ℕ)) (lows : List ℤ) : Type 0 where
+  pub well_formed : WellFormed nodes
+  pub room : length nodes ≤ length table
+  pub even : length lows ≡ length table
+
+-- Of nodes that fit these are kept too, each from its clock on. The table and the clocks are as long as before.
+pub record HaveKept (Fit : List Node → Type 0) (more : List (ℕ × ℤ)) (before : List (Option ℕ)) (lows_before : List ℤ) (now : List (Option ℕ)) (lows_now : List ℤ) : Type 0 where
+  pub marks : (nodes : List Node) (roots : List (ℕ × ℤ)) → length nodes ≤ length before → Fit nodes → AreNodeMarks nodes roots (length nodes) before lows_before → AreNodeMarks nodes (roots ++ more) (length nodes) now lows_now
+  pub long : (length now ≡ length before) × (length lows_now ≡ length lows_before)
+
+-- What the nodes from an id on need is kept, where it was from a greater one on. The table and the clocks are as long as before.
+pub record HaveMarked (nodes : List Node) (from to : ℕ) (before : List (Option ℕ)) (lows_before : List ℤ) (now : List (Option ℕ)) (lows_now : List ℤ) : Type 0 where
+  pub marks : (roots : List (ℕ × ℤ)) → AreNodeMarks nodes roots from before lows_before → AreNodeMarks nodes roots to now lows_now
+  pub long : (length now ≡ length before) × (length lows_now ≡ length lows_before)
 
 -- What keeping a node from a clock on makes of the clocks: its own is set where it was not kept, or from a later clock on.
 pub data IsLowered (table : List (Option ℕ)) (lows : List ℤ) (id : ℕ) (low : ℤ) : List ℤ → Type 0 where

@@ -1,8 +1,7 @@
 //! The stacks of held cursors: they say which nodes are kept, and are moved with their nodes.
-ghost use Rattle.std.specs.Prelude.{◌≡◌, ◌+◌, ◌*◌, ◌<◌, ◌≤◌, ◌++◌, [], ◌∷◌, List, ℕ, ℤ, All, Some, length, map, get_or, slice_get, slice_set};
-ghost use Rattle.cer_base.specs.declared.node.Node.{Node};
-ghost use Rattle.tecs_enumerate.specs.Remaining.{CursorState, Fits, id_of, prefix_of};
-ghost use Rattle.arena_compact.specs.Marks.{IsKept, AreNodeMarks};
+ghost use Rattle.std.specs.Prelude.{◌≡◌, ◌<◌, [], ◌∷◌, ℕ, All, length, map, get_or};
+ghost use Rattle.tecs_enumerate.specs.Remaining.{CursorState, Fits, id_of};
+ghost use Rattle.arena_compact.specs.Marks.{IsKept, CanKeep, HaveKept};
 ghost use Rattle.arena_compact.specs.Roots.{stack_roots, cursor_roots, AreMoved, CursorMoved};
 
 use super::marks::keep;
@@ -50,12 +49,9 @@ impl HasCursor for Cursor {
 
 /// Keeps the nodes that a cursor still has on its stack, from the cursor's clock on.
 pub fn keep_cursor(cursor: &Cursor, table: &mut [Option<Id>], lows: &mut [LowTime])
-    requires inside { All (λ id. id < length table.old) (map id_of cursor.now.stack) }
-    requires even { length lows.old ≡ length table.old }
-    ensures marks { (nodes : List Node) → (roots : List (ℕ × ℤ)) → length nodes ≤ length table.old
-        → Fits cursor.now nodes → AreNodeMarks nodes roots (length nodes) table.old lows.old
-        → AreNodeMarks nodes (roots ++ stack_roots cursor.now) (length nodes) table.new lows.new }
-    ensures long { (length table.new ≡ length table.old) × (length lows.new ≡ length lows.old) }
+    requires { CanKeep (λ n. All (λ id. id < n) (map id_of cursor.now.stack)) table.old lows.old }
+    ensures { HaveKept (Fits cursor.now) (stack_roots cursor.now) table.old lows.old table.new
+        lows.new }
 {
     let low = LowTime::of(cursor.low());
     for k in 0..cursor.depth() {
@@ -78,15 +74,10 @@ pub fn move_cursor<C: HasCursor>(cursor: &mut C, table: &[Option<Id>])
 
 /// Keeps the nodes that the cursor still has on its stack, if it is the query's.
 fn keep_if(cursor: &Cursor, query: u64, table: &mut [Option<Id>], lows: &mut [LowTime])
-    requires inside { cursor.now.query ≡ query
-        → All (λ id. id < length table.old) (map id_of cursor.now.stack) }
-    requires even { length lows.old ≡ length table.old }
-    ensures marks { (nodes : List Node) → (roots : List (ℕ × ℤ)) → length nodes ≤ length table.old
-        → (cursor.now.query ≡ query → Fits cursor.now nodes)
-        → AreNodeMarks nodes roots (length nodes) table.old lows.old
-        → AreNodeMarks nodes (roots ++ cursor_roots query (cursor.now ∷ [])) (length nodes)
-        table.new lows.new }
-    ensures long { (length table.new ≡ length table.old) × (length lows.new ≡ length lows.old) }
+    requires { CanKeep (λ n. cursor.now.query ≡ query
+        → All (λ id. id < n) (map id_of cursor.now.stack)) table.old lows.old }
+    ensures { HaveKept (λ nodes. cursor.now.query ≡ query → Fits cursor.now nodes)
+        (cursor_roots query (cursor.now ∷ [])) table.old lows.old table.new lows.new }
 {
     if cursor.query() == query {
         keep_cursor(cursor, table, lows);
@@ -101,15 +92,10 @@ pub fn keep_cursors<C: HasCursor>(
     table: &mut [Option<Id>],
     lows: &mut [LowTime],
 )
-    requires inside { All (λ w. w.query ≡ query
-        → All (λ id. id < length table.old) (map id_of w.stack)) (map C.walk cursors.now) }
-    requires even { length lows.old ≡ length table.old }
-    ensures marks { (nodes : List Node) → (roots : List (ℕ × ℤ)) → length nodes ≤ length table.old
-        → All (λ w. w.query ≡ query → Fits w nodes) (map C.walk cursors.now)
-        → AreNodeMarks nodes roots (length nodes) table.old lows.old
-        → AreNodeMarks nodes (roots ++ cursor_roots query (map C.walk cursors.now)) (length nodes)
-        table.new lows.new }
-    ensures long { (length table.new ≡ length table.old) × (length lows.new ≡ length lows.old) }
+    requires { CanKeep (λ n. All (λ w. w.query ≡ query
+        → All (λ id. id < n) (map id_of w.stack)) (map C.walk cursors.now)) table.old lows.old }
+    ensures { HaveKept (λ nodes. All (λ w. w.query ≡ query → Fits w nodes) (map C.walk cursors.now))
+        (cursor_roots query (map C.walk cursors.now)) table.old lows.old table.new lows.new }
 {
     for k in 0..cursors.len() {
         keep_if(cursors[k].cursor(), query, table, lows);

@@ -1,10 +1,8 @@
 //! The lists of all keys, wherever a caller has them.
-ghost use Rattle.std.specs.Prelude.{◌≡◌, ◌+◌, ◌*◌, ◌<◌, ◌≤◌, ◌++◌, List, ℕ, ℤ, All, length, map};
-ghost use Rattle.cer_base.specs.declared.node.Node.{Node};
-ghost use Rattle.cer_base.specs.declared.node.Root.{Root};
+ghost use Rattle.std.specs.Prelude.{◌≡◌, ◌+◌, ◌*◌, ◌<◌, ◌≤◌, All, map};
 ghost use Rattle.cer_base.specs.Nodes.{IsRoot};
 ghost use Rattle.event_update.specs.Update.{entries_in};
-ghost use Rattle.arena_compact.specs.Marks.{AreNodeMarks};
+ghost use Rattle.arena_compact.specs.Marks.{CanKeep, HaveKept};
 ghost use Rattle.arena_compact.specs.Roots.{key_roots, places, CanMove, kept_rows, RowsMoved, KeysMoved};
 
 use super::rows::{keep_rows, move_rows};
@@ -64,15 +62,11 @@ pub fn keep_keys<K: HasLists, L: Ledger>(
     lows: &mut [LowTime],
     steps: &mut Steps<L>,
 )
-    requires inside { All (λ rows. All (λ r. All (λ e. e.id < length table.old) r.1) rows)
-        (map K.rows keys.now) }
-    requires even { length lows.old ≡ length table.old }
-    ensures marks { (nodes : List Node) → (roots : List (ℕ × ℤ)) → length nodes ≤ length table.old
-        → All (λ rows. All (λ r. All (IsRoot nodes) r.1) rows) (map K.rows keys.now)
-        → AreNodeMarks nodes roots (length nodes) table.old lows.old
-        → AreNodeMarks nodes (roots ++ key_roots low (map K.rows keys.now)) (length nodes)
-        table.new lows.new }
-    ensures long { (length table.new ≡ length table.old) × (length lows.new ≡ length lows.old) }
+    requires { CanKeep (λ n. All (λ rows. All (λ r. All (λ e. e.id < n) r.1) rows)
+        (map K.rows keys.now)) table.old lows.old }
+    ensures kept { HaveKept (λ nodes. All (λ rows. All (λ r. All (IsRoot nodes) r.1) rows)
+        (map K.rows keys.now)) (key_roots low (map K.rows keys.now)) table.old lows.old table.new
+        lows.new }
     ensures steps { steps.new ≡ steps.old + places (map K.rows keys.now) }
 {
     for k in 0..keys.len() {

@@ -33,7 +33,7 @@ ghost use Rattle.tecs_enumerate.specs.Remaining.{CursorState, Fits};
 ghost use Rattle.union_lists.specs.Lists.{IsUnionList};
 ghost use Rattle.arena_compact.specs.Marks.{AreNodeMarks};
 ghost use Rattle.arena_compact.specs.Roots.{key_roots, cursor_roots, places};
-ghost use Rattle.arena_compact.specs.Compacted.{least_of, Compacted, KeysCompacted, CursorCompacted, CanCompact, AreCompacted};
+ghost use Rattle.arena_compact.specs.Compacted.{least_of, Compacted, KeysCompacted, CursorCompacted, CanCompact, AreCompacted, IsCompaction};
 
 use cer_base::Memory;
 use cer_base::node::Id;
@@ -137,7 +137,6 @@ fn move_all<S: NodeStore, K: HasLists, C: HasCursor, L: Ledger>(
     ensures compacted { AreCompacted query low (S.nodes store.old) (S.nodes store.new)
         (map K.rows keys.old) (map K.rows keys.new) (map C.walk cursors.old)
         (map C.walk cursors.new) }
-    ensures count { length cursors.new ≡ length cursors.old }
     ensures steps { steps.new
         ≤ steps.old + 4 * length (S.nodes store.old) + 3 * places (map K.rows keys.old) }
     ensures counted { 3 * places (map K.rows keys.new) + steps.old ≤ steps.new }
@@ -171,14 +170,9 @@ fn compact_in<S: NodeStore, K: HasLists, C: HasCursor, L: Ledger>(
     requires can { CanCompact query (length table.old) (S.nodes store.old) (map K.rows keys.old)
         (map C.walk cursors.old) }
     requires even { length lows.old ≡ length table.old }
-    ensures compacted { AreCompacted query low (S.nodes store.old) (S.nodes store.new)
+    ensures { IsCompaction query low (S.nodes store.old) (S.nodes store.new)
         (map K.rows keys.old) (map K.rows keys.new) (map C.walk cursors.old)
-        (map C.walk cursors.new) }
-    ensures count { length cursors.new ≡ length cursors.old }
-    ensures steps { steps.new
-        ≤ steps.old + 8 * length (S.nodes store.old) + 4 * places (map K.rows keys.old) }
-    ensures counted { places (map K.rows keys.old) + 3 * places (map K.rows keys.new) + steps.old
-        ≤ steps.new }
+        (map C.walk cursors.new) steps.old steps.new }
 {
     blank(table);
     keep_all(store, query, keys, cursors, *&low, table, lows, steps);
@@ -199,16 +193,11 @@ fn compact_with<S: NodeStore, K: HasLists, C: HasCursor, L: Ledger>(
     requires can { CanCompact query (length table.old.items) (S.nodes store.old)
         (map K.rows keys.old) (map C.walk cursors.old) }
     requires wide { length (S.nodes store.old) ≤ length lows.old.items }
-    ensures compacted { AreCompacted query low (S.nodes store.old) (S.nodes store.new)
+    ensures compaction { IsCompaction query low (S.nodes store.old) (S.nodes store.new)
         (map K.rows keys.old) (map K.rows keys.new) (map C.walk cursors.old)
-        (map C.walk cursors.new) }
-    ensures count { length cursors.new ≡ length cursors.old }
+        (map C.walk cursors.new) steps.old steps.new }
     ensures table { length table.new.items ≡ length table.old.items }
     ensures lows { length lows.new.items ≡ length lows.old.items }
-    ensures steps { steps.new
-        ≤ steps.old + 8 * length (S.nodes store.old) + 4 * places (map K.rows keys.old) }
-    ensures counted { places (map K.rows keys.old) + 3 * places (map K.rows keys.new) + steps.old
-        ≤ steps.new }
 {
     let count = store.len() as usize;
     let table = &mut table.as_mut_slice()[..count];

@@ -1,9 +1,8 @@
 //! The entries of one union list: they say which nodes are kept, and are moved with their nodes.
-ghost use Rattle.std.specs.Prelude.{◌≡◌, ◌+◌, ◌*◌, ◌<◌, ◌≤◌, ◌++◌, [], List, ℕ, ℤ, All, Some, true, false, length, slice_get, slice_set, int_le};
-ghost use Rattle.cer_base.specs.declared.node.Node.{Node};
+ghost use Rattle.std.specs.Prelude.{◌≡◌, ◌+◌, ◌*◌, ◌<◌, ◌≤◌, [], All, Some, true, false, length, slice_get, slice_set, int_le};
 ghost use Rattle.cer_base.specs.declared.node.Root.{Root};
 ghost use Rattle.cer_base.specs.Nodes.{IsRoot};
-ghost use Rattle.arena_compact.specs.Marks.{AreNodeMarks, IsLowered};
+ghost use Rattle.arena_compact.specs.Marks.{IsLowered, CanKeep, HaveKept};
 ghost use Rattle.arena_compact.specs.Roots.{recent_entries, list_roots, AreOlder, IsPlaced, EntryMoved, EntriesMoved};
 
 use super::marks::{is_recent, keep};
@@ -17,8 +16,7 @@ use union_lists::UList;
 
 /// Keeps the node of an entry, if it is recent.
 fn keep_entry(entry: Root, low: LowTime, table: &mut [Option<Id>], lows: &mut [LowTime])
-    requires inside { entry.id < length table.old }
-    requires even { length lows.old ≡ length table.old }
+    requires { CanKeep (λ n. entry.id < n) table.old lows.old }
     ensures recent { int_le low entry.max.clock ≡ true
         → (table.new ≡ slice_set table.old entry.id (Some entry.id))
         × IsLowered table.old lows.old entry.id low lows.new }
@@ -39,14 +37,9 @@ pub fn keep_list<L: Ledger>(
     lows: &mut [LowTime],
     steps: &mut Steps<L>,
 )
-    requires inside { All (λ e. e.id < length table.old) list.now }
-    requires even { length lows.old ≡ length table.old }
-    ensures marks { (nodes : List Node) → (roots : List (ℕ × ℤ)) → length nodes ≤ length table.old
-        → All (IsRoot nodes) list.now
-        → AreNodeMarks nodes roots (length nodes) table.old lows.old
-        → AreNodeMarks nodes (roots ++ list_roots low list.now) (length nodes) table.new
-        lows.new }
-    ensures long { (length table.new ≡ length table.old) × (length lows.new ≡ length lows.old) }
+    requires { CanKeep (λ n. All (λ e. e.id < n) list.now) table.old lows.old }
+    ensures kept { HaveKept (λ nodes. All (IsRoot nodes) list.now) (list_roots low list.now)
+        table.old lows.old table.new lows.new }
     ensures steps { steps.new ≡ steps.old + length list.now }
 {
     for k in 0..list.len() {

@@ -1,10 +1,9 @@
 //! The lists of one key, each with its state.
-ghost use Rattle.std.specs.Prelude.{◌≡◌, ◌+◌, ◌*◌, ◌<◌, ◌≤◌, ◌++◌, List, ℕ, ℤ, All, Some, true, length, take, slice_get, int_le};
-ghost use Rattle.cer_base.specs.declared.node.Node.{Node};
+ghost use Rattle.std.specs.Prelude.{◌≡◌, ◌+◌, ◌*◌, ◌<◌, ◌≤◌, List, ℕ, All, Some, true, length, take, slice_get, int_le};
 ghost use Rattle.cer_base.specs.declared.node.Root.{Root};
 ghost use Rattle.cer_base.specs.Nodes.{IsRoot};
 ghost use Rattle.event_update.specs.Update.{entries_in};
-ghost use Rattle.arena_compact.specs.Marks.{AreNodeMarks};
+ghost use Rattle.arena_compact.specs.Marks.{CanKeep, HaveKept};
 ghost use Rattle.arena_compact.specs.Roots.{recent_entries, row_roots, AreOlder, IsPlaced, CanMove, MovesRows, MovedAt};
 
 use super::lists::{keep_list, move_list};
@@ -25,14 +24,10 @@ pub fn keep_rows<L: Ledger>(
     lows: &mut [LowTime],
     steps: &mut Steps<L>,
 )
-    requires inside { All (λ r. All (λ e. e.id < length table.old) r.1) active.now.entries }
-    requires even { length lows.old ≡ length table.old }
-    ensures marks { (nodes : List Node) → (roots : List (ℕ × ℤ)) → length nodes ≤ length table.old
-        → All (λ r. All (IsRoot nodes) r.1) active.now.entries
-        → AreNodeMarks nodes roots (length nodes) table.old lows.old
-        → AreNodeMarks nodes (roots ++ row_roots low active.now.entries) (length nodes) table.new
-        lows.new }
-    ensures long { (length table.new ≡ length table.old) × (length lows.new ≡ length lows.old) }
+    requires { CanKeep (λ n. All (λ r. All (λ e. e.id < n) r.1) active.now.entries) table.old
+        lows.old }
+    ensures kept { HaveKept (λ nodes. All (λ r. All (IsRoot nodes) r.1) active.now.entries)
+        (row_roots low active.now.entries) table.old lows.old table.new lows.new }
     ensures steps { steps.new ≡ steps.old + entries_in active.now.entries }
 {
     for k in 0..active.len() {

@@ -1,6 +1,7 @@
 -- A table of numbered states, of numbered classes of events, and of the pairs of state and class whose
 -- successors are known. Events that the same leaves can read are of one class.
 use Rattle.std.specs.Prelude.{◌≡◌, ℕ, zero, suc, ◌<◌, ◌≤◌, Bool, true, false, List, [], ◌++◌, Option, Some, None, option_map, length, slice_get, slice_index_or, IfSome, All}
+use Rattle.std.specs.Map.{lookup}
 use Rattle.cer_base.specs.Bits.{has, room_for}
 use Rattle.cea_determinise.specs.declared.cea.Cea.{Cea}
 use Rattle.cea_determinise.specs.declared.cea.StateSets.{StateSets}
@@ -8,6 +9,7 @@ use Rattle.cea_determinise.specs.declared.table.TransitionKey.{TransitionKey}
 use Rattle.cea_determinise.specs.declared.table.Both.{Both}
 use Rattle.cea_determinise.specs.declared.table.Sizes.{Sizes}
 use Rattle.cea_determinise.specs.declared.table.Successors.{Successors}
+use Rattle.cea_determinise.specs.Keys.{is_same_key}
 use Rattle.cea_determinise.specs.Runs.{accepts}
 use Rattle.cea_determinise.specs.Strict.{Standing, next_standing}
 use Rattle.cea_determinise.specs.Cea.{automaton_of_cea, standing_of, standing, IsWellFormed, HasLeavesBelow}
@@ -47,6 +49,11 @@ pub record AreSuccessors (cea : Cea) (states : List StateSets) (event_classes : 
   pub event_class : p.event_class < length event_classes
   pub marked : Leads cea states p.state (event_class_at event_classes p.event_class) true s.marked
   pub unmarked : Leads cea states p.state (event_class_at event_classes p.event_class) false s.unmarked
+
+-- The table tells these successors of the pair, and they are right.
+pub record IsStoredPair (t : Table) (p : TransitionKey) (s : Successors) : Type 0 where
+  pub value : lookup (is_same_key p) t.transitions ≡ Some s
+  pub right : AreSuccessors t.cea t.states t.event_classes p s
 
 -- Each state's sets are ones of leaves, each class has room for the leaves, and each pair's successors are those of the definition.
 pub record IsSound (t : Table) : Type 0 where

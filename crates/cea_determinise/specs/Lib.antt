@@ -5,3 +5,4 @@ pub mod LazyDfa
 pub mod Keys
 pub mod Places
 pub mod Rows
+pub mod LeafSets

@@ -6,11 +6,12 @@ ghost use Rattle.std.specs.Map.{lookup};
 ghost use Rattle.cer_base.specs.Bits.{has, room_for};
 ghost use Rattle.cea_determinise.specs.Keys.{is_same_key, is_same_set, are_same_sets};
 ghost use Rattle.cea_determinise.specs.Runs.{accepts};
+ghost use Rattle.cea_determinise.specs.LeafSets.{AreStatesOf};
 ghost use Rattle.cea_determinise.specs.Cea.{automaton_of_cea, standing, standing_of, IsWellFormed, HasLeavesBelow};
 ghost use Rattle.cea_determinise.specs.declared.cea.StateSets.{StateSets};
 ghost use Rattle.cea_determinise.specs.declared.table.Successors.{Successors};
 ghost use Rattle.cea_determinise.specs.Rows.{IsListed};
-ghost use Rattle.cea_determinise.specs.LazyDfa.{sets_at, standing_at, event_class_at, AreSuccessors, IsSound, Reached, StaysWithin, AreBoth, IsNumber, Adds, AddsEventClass, TellsAccepting};
+ghost use Rattle.cea_determinise.specs.LazyDfa.{sets_at, standing_at, event_class_at, AreSuccessors, IsSound, IsStoredPair, Reached, StaysWithin, AreBoth, IsNumber, Adds, AddsEventClass, TellsAccepting};
 
 use crate::cea::{Cea, Side, StateSets};
 use crate::places::Places;
@@ -242,11 +243,7 @@ impl LazyDfa {
 
     /// The successors of the pair, where it stands at the place that was told of it.
     fn placed(&self, key: TransitionKey) -> Option<Successors>
-        ensures value { IfSome result
-            (λ s. lookup (is_same_key key) self.now.transitions ≡ Some s) }
-        ensures right { IfSome result
-            (AreSuccessors self.now.cea self.now.states self.now.event_classes
-            key) }
+        ensures { IfSome result (IsStoredPair self.now key) }
     {
         match self.transitions.get_index(self.places.get(key)) {
             None => None,
@@ -408,8 +405,7 @@ fn tell_accepting(
     cea: &Cea,
     states: &IndexSet<StateSets, Seed>,
 ) -> Result<(), Memory>
-    requires well_formed { IsWellFormed cea.now }
-    requires states { All (HasLeavesBelow cea.now.size) states.now.keys }
+    requires states { AreStatesOf cea.now states.now.keys }
     requires told { TellsAccepting cea.now states.now.keys accepting.old.items }
     ensures { TellsAccepting cea.now states.now.keys accepting.new.items }
 {

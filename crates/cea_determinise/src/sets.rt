@@ -4,6 +4,7 @@ ghost use Rattle.std.specs.Option.{option_copied};
 ghost use Rattle.cer_base.specs.Bits.{has, room_for};
 ghost use Rattle.cea_determinise.specs.Runs.{some_below, candidates, skip_insensitive, agrees, pair, minds_next, waits_at_once};
 ghost use Rattle.cea_determinise.specs.Strict.{phase_after, next_standing};
+ghost use Rattle.cea_determinise.specs.LeafSets.{AreLeavesOf, Holds, HoldsBelow, IsEventOf, IsLeafOf};
 ghost use Rattle.cea_determinise.specs.Cea.{row, automaton_of_cea, IsSet, IsWellFormed, HasLeavesBelow, standing_of, standing, takes_marked};
 
 use crate::cea::{Cea, Phase, Side, StateSets};
@@ -28,11 +29,9 @@ fn unite_rows(into: &mut Bits, from: &Bits, rows: &[Bits])
 
 /// The leaves that may read the next event after the state.
 pub fn may_read(alloc: Global, cea: &Cea, state_sets: &StateSets) -> Result<Bits, Memory>
-    requires well_formed { IsWellFormed cea.now }
-    ensures room { IfOk result (λ c. length c ≡ room_for cea.now.size) }
-    ensures members { IfOk result (λ c. (k : ℕ) → has c k
-        ≡ candidates (automaton_of_cea cea.now) (pair (has state_sets.now.fresh)
-        (has state_sets.now.waiting)) k) }
+    requires { IsWellFormed cea.now }
+    ensures { IfOk result (Holds cea.now.size (candidates (automaton_of_cea cea.now)
+        (pair (has state_sets.now.fresh) (has state_sets.now.waiting)))) }
 {
     let mut leaves = Bits::blank(alloc, cea.size)?;
     unite_rows(&mut leaves, &state_sets.fresh, cea.near.as_slice());
@@ -51,8 +50,7 @@ pub fn some_leaf(cea: &Cea, set: &Bits) -> bool
 
 /// Whether the leaf has a far follower.
 fn has_far(cea: &Cea, leaf: usize) -> bool
-    requires well_formed { IsWellFormed cea.now }
-    requires leaf { leaf < cea.now.size }
+    requires { IsLeafOf cea.now leaf }
     ensures { result ≡ some_below cea.now.size (row cea.now.far.items leaf) }
 {
     some_leaf(cea, &cea.far[leaf])
@@ -60,8 +58,7 @@ fn has_far(cea: &Cea, leaf: usize) -> bool
 
 /// Whether the leaf has a near follower.
 fn has_near(cea: &Cea, leaf: usize) -> bool
-    requires well_formed { IsWellFormed cea.now }
-    requires leaf { leaf < cea.now.size }
+    requires { IsLeafOf cea.now leaf }
     ensures { result ≡ some_below cea.now.size (row cea.now.near.items leaf) }
 {
     some_leaf(cea, &cea.near[leaf])
@@ -69,8 +66,7 @@ fn has_near(cea: &Cea, leaf: usize) -> bool
 
 /// Whether the leaf minds what the very next event is.
 fn minds_next(cea: &Cea, leaf: usize) -> bool
-    requires well_formed { IsWellFormed cea.now }
-    requires leaf { leaf < cea.now.size }
+    requires { IsLeafOf cea.now leaf }
     ensures { result ≡ minds_next (automaton_of_cea cea.now) leaf }
 {
     cea.last.contains(leaf) || has_near(cea, leaf)
@@ -78,8 +74,7 @@ fn minds_next(cea: &Cea, leaf: usize) -> bool
 
 /// Whether the leaf waits as soon as it has read an event.
 fn waits_at_once(cea: &Cea, leaf: usize) -> bool
-    requires well_formed { IsWellFormed cea.now }
-    requires leaf { leaf < cea.now.size }
+    requires { IsLeafOf cea.now leaf }
     ensures { result ≡ waits_at_once (automaton_of_cea cea.now) leaf }
 {
     !minds_next(cea, leaf) && has_far(cea, leaf)
@@ -87,11 +82,9 @@ fn waits_at_once(cea: &Cea, leaf: usize) -> bool
 
 /// Those of the leaves that mind what the next event is.
 pub fn minding(alloc: Global, cea: &Cea, readers: &Bits) -> Result<Bits, Memory>
-    requires well_formed { IsWellFormed cea.now }
-    requires readers { IsSet cea.now.size readers.now }
-    ensures set { IfOk result (IsSet cea.now.size) }
-    ensures members { IfOk result (λ r. (k : ℕ) → has r k
-        ≡ has readers.now k && minds_next (automaton_of_cea cea.now) k) }
+    requires { AreLeavesOf cea.now readers.now }
+    ensures { IfOk result (HoldsBelow cea.now.size
+        (λ k. has readers.now k && minds_next (automaton_of_cea cea.now) k)) }
 {
     let mut leaves = Bits::blank(alloc, cea.size)?;
     for leaf in 0..cea.size {
@@ -104,11 +97,9 @@ pub fn minding(alloc: Global, cea: &Cea, readers: &Bits) -> Result<Bits, Memory>
 
 /// Those of the leaves that wait at once.
 pub fn waiting_at_once(alloc: Global, cea: &Cea, readers: &Bits) -> Result<Bits, Memory>
-    requires well_formed { IsWellFormed cea.now }
-    requires readers { IsSet cea.now.size readers.now }
-    ensures set { IfOk result (IsSet cea.now.size) }
-    ensures members { IfOk result (λ r. (k : ℕ) → has r k
-        ≡ has readers.now k && waits_at_once (automaton_of_cea cea.now) k) }
+    requires { AreLeavesOf cea.now readers.now }
+    ensures { IfOk result (HoldsBelow cea.now.size
+        (λ k. has readers.now k && waits_at_once (automaton_of_cea cea.now) k)) }
 {
     let mut leaves = Bits::blank(alloc, cea.size)?;
     for leaf in 0..cea.size {
@@ -130,10 +121,8 @@ fn has_read(state_sets: &StateSets, leaf: usize) -> bool
 pub fn all_waiting(alloc: Global, cea: &Cea, state_sets: &StateSets) -> Result<Bits, Memory>
     requires well_formed { IsWellFormed cea.now }
     requires state_sets { HasLeavesBelow cea.now.size state_sets.now }
-    ensures set { IfOk result (IsSet cea.now.size) }
-    ensures members { IfOk result (λ w. (k : ℕ) → has w k
-        ≡ skip_insensitive (automaton_of_cea cea.now) (pair (has state_sets.now.fresh)
-        (has state_sets.now.waiting)) k) }
+    ensures { IfOk result (HoldsBelow cea.now.size (skip_insensitive (automaton_of_cea cea.now)
+        (pair (has state_sets.now.fresh) (has state_sets.now.waiting)))) }
 {
     let mut leaves = Bits::blank(alloc, cea.size)?;
     for leaf in 0..cea.size {
@@ -146,9 +135,8 @@ pub fn all_waiting(alloc: Global, cea: &Cea, state_sets: &StateSets) -> Result<B
 
 /// Keeps the leaves that can read the event, and whose marks are as asked.
 pub fn keep_readers(leaves: &mut Bits, cea: &Cea, bits: &Bits, side: Side)
-    requires well_formed { IsWellFormed cea.now }
     requires room { length leaves.old ≡ room_for cea.now.size }
-    requires bits { length bits.now ≡ room_for cea.now.size }
+    requires event { IsEventOf cea.now bits.now }
     ensures room { length leaves.new ≡ length leaves.old }
     ensures members { (k : ℕ) → has leaves.new k
         ≡ has leaves.old k && (has bits.now k && agrees (takes_marked side)

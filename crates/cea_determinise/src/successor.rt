@@ -1,9 +1,10 @@
 //! The successor of a state on an event.
-ghost use Rattle.std.specs.Prelude.{◌≡◌, ℕ, ◌&&◌, ◌||◌, not, length, option_map, IfOk, IfSome};
+ghost use Rattle.std.specs.Prelude.{◌≡◌, ℕ, ◌&&◌, ◌||◌, not, option_map, IfOk, IfSome};
 ghost use Rattle.std.specs.Option.{option_copied};
-ghost use Rattle.cer_base.specs.Bits.{has, room_for};
+ghost use Rattle.cer_base.specs.Bits.{has};
 ghost use Rattle.cea_determinise.specs.Runs.{candidates, skip_insensitive, readers, minds_next, waits_at_once, has_leaf, pair};
 ghost use Rattle.cea_determinise.specs.Strict.{next_standing};
+ghost use Rattle.cea_determinise.specs.LeafSets.{CanRead, Holds, HoldsBelow, IsEventOf, IsStateOf};
 ghost use Rattle.cea_determinise.specs.Cea.{automaton_of_cea, IsSet, IsWellFormed, HasLeavesBelow, standing_of, standing, takes_marked};
 
 use crate::cea::{Cea, Phase, Side, StateSets};
@@ -27,10 +28,8 @@ fn phase_of(state_sets: Option<&StateSets>) -> Phase
 /// The leaves that may read the next event.
 fn all_next(alloc: Global, cea: &Cea, state_sets: Option<&StateSets>) -> Result<Bits, Memory>
     requires { IsWellFormed cea.now }
-    ensures room { IfOk result (λ c. length c ≡ room_for cea.now.size) }
-    ensures members { IfOk result (λ c. (k : ℕ) → has c k
-        ≡ candidates (automaton_of_cea cea.now) (standing (option_copied state_sets.entry)).sets
-        k) }
+    ensures { IfOk result (Holds cea.now.size (candidates (automaton_of_cea cea.now)
+        (standing (option_copied state_sets.entry)).sets)) }
 {
     match state_sets {
         None => cea.first.copy(alloc),
@@ -46,12 +45,9 @@ fn readers(
     bits: &Bits,
     side: Side,
 ) -> Result<Bits, Memory>
-    requires well_formed { IsWellFormed cea.now }
-    requires bits { length bits.now ≡ room_for cea.now.size }
-    ensures set { IfOk result (IsSet cea.now.size) }
-    ensures members { IfOk result (λ c. (k : ℕ) → has c k
-        ≡ readers (automaton_of_cea cea.now) (standing (option_copied state_sets.entry)).sets
-        (has bits.now) (takes_marked side) k) }
+    requires { IsEventOf cea.now bits.now }
+    ensures { IfOk result (HoldsBelow cea.now.size (readers (automaton_of_cea cea.now)
+        (standing (option_copied state_sets.entry)).sets (has bits.now) (takes_marked side))) }
 {
     let mut leaves = all_next(alloc, cea, state_sets)?;
     keep_readers(&mut leaves, cea, bits, side);
@@ -65,12 +61,10 @@ fn passing(
     state_sets: Option<&StateSets>,
     side: Side,
 ) -> Result<Bits, Memory>
-    requires well_formed { IsWellFormed cea.now }
-    requires state_sets { IfSome state_sets (λ p. HasLeavesBelow cea.now.size p.now) }
-    ensures set { IfOk result (IsSet cea.now.size) }
-    ensures members { IfOk result (λ w. (k : ℕ) → has w k
-        ≡ not (takes_marked side) && skip_insensitive (automaton_of_cea cea.now)
-        (standing (option_copied state_sets.entry)).sets k) }
+    requires { IsStateOf cea.now state_sets }
+    ensures { IfOk result (HoldsBelow cea.now.size (λ k. not (takes_marked side)
+        && skip_insensitive (automaton_of_cea cea.now)
+        (standing (option_copied state_sets.entry)).sets k)) }
 {
     match (state_sets, side) {
         (Some(state_sets), Side::Unmarked) => all_waiting(alloc, cea, state_sets),
@@ -87,14 +81,12 @@ fn waiting_after(
     readers: &Bits,
     side: Side,
 ) -> Result<Bits, Memory>
-    requires well_formed { IsWellFormed cea.now }
-    requires state_sets { IfSome state_sets (λ p. HasLeavesBelow cea.now.size p.now) }
+    requires state { IsStateOf cea.now state_sets }
     requires readers { IsSet cea.now.size readers.now }
-    ensures set { IfOk result (IsSet cea.now.size) }
-    ensures members { IfOk result (λ w. (k : ℕ) → has w k
-        ≡ not (takes_marked side) && skip_insensitive (automaton_of_cea cea.now)
+    ensures { IfOk result (HoldsBelow cea.now.size (λ k. not (takes_marked side)
+        && skip_insensitive (automaton_of_cea cea.now)
         (standing (option_copied state_sets.entry)).sets k
-        || has readers.now k && waits_at_once (automaton_of_cea cea.now) k) }
+        || has readers.now k && waits_at_once (automaton_of_cea cea.now) k)) }
 {
     let mut waiting = passing(alloc, cea, state_sets, side)?;
     let at_once = waiting_at_once(alloc, cea, readers)?;
@@ -110,9 +102,7 @@ fn sets_after(
     bits: &Bits,
     side: Side,
 ) -> Result<(Bits, Bits), Memory>
-    requires well_formed { IsWellFormed cea.now }
-    requires state_sets { IfSome state_sets (λ p. HasLeavesBelow cea.now.size p.now) }
-    requires bits { length bits.now ≡ room_for cea.now.size }
+    requires { CanRead cea.now state_sets bits.now }
     ensures sets { IfOk result (λ r. IsSet cea.now.size r.0 × IsSet cea.now.size r.1) }
     ensures fresh { IfOk result (λ r. (k : ℕ) → has r.0 k ≡ readers (automaton_of_cea cea.now)
         (standing (option_copied state_sets.entry)).sets (has bits.now) (takes_marked side) k
@@ -147,9 +137,7 @@ pub fn successor(
     bits: &Bits,
     side: Side,
 ) -> Result<Option<StateSets>, Memory>
-    requires well_formed { IsWellFormed cea.now }
-    requires state_sets { IfSome state_sets (λ p. HasLeavesBelow cea.now.size p.now) }
-    requires bits { length bits.now ≡ room_for cea.now.size }
+    requires { CanRead cea.now state_sets bits.now }
     ensures state_sets { IfOk result (λ r. IfSome r (HasLeavesBelow cea.now.size)) }
     ensures exact { IfOk result (λ r. option_map standing_of r
         ≡ next_standing (automaton_of_cea cea.now) cea.now.strict

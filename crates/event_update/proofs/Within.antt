@@ -1,5 +1,5 @@
 -- What the store and the table get stays within bounds, from call to call.
-use Rattle.std.proofs.Common.{◌≡◌, ℕ, ◌+◌, ◌*◌, ◌≤◌, Bool, List, [], ◌∷◌, ◌++◌, map, length, take, refl, sym, ap, subst, ◌∙◌, arith}
+use Rattle.std.proofs.Common.{◌≡◌, ℕ, ◌+◌, ◌*◌, ◌≤◌, Bool, List, ◌∷◌, map, length, take, sym, ap, subst, ◌∙◌, arith}
 use Rattle.std.proofs.Math.Seq.{take-append_seam}
 use Rattle.cer_base.specs.declared.node.Stamp.{Stamp}
 use Rattle.cer_base.specs.declared.node.Root.{Root}
@@ -9,7 +9,7 @@ use Rattle.cea_determinise.specs.LazyDfa.{Table}
 use Rattle.event_update.specs.Narrow.{IsNarrow}
 use Rattle.event_update.specs.Prepared.{FindsWithin}
 use Rattle.event_update.specs.Stands.{tops_rows}
-use Rattle.event_update.specs.Update.{Discovers, GrowsBy, GrowsWithin, work_bound}
+use Rattle.event_update.specs.Update.{Discovers, GrowsBy, GrowsWithin}
 use Rattle.event_update.proofs.Bounds.{paid_within}
 use Rattle.event_update.proofs.Cached.{number_later}
 use Rattle.event_update.proofs.RowPlaced.{grows_by_none}
@@ -27,11 +27,14 @@ begun_within stamp rows old new before after g p s = record {
 pub unchanged_within : (stamp : Stamp) (rows : List (ℕ × List Root)) (nodes : List Node) (before : ℕ) → WellFormed nodes → GrowsWithin stamp rows nodes nodes before before
 unchanged_within stamp rows nodes before w = begun_within stamp rows nodes nodes before before (grows_by_none stamp nodes w) (omega arith) (omega arith)
 
+-- what is cut back to its old length is as it was
+pub cut_same : (stamp : Stamp) (old new cut : List Node) (n : ℕ) → GrowsBy stamp old new → n ≡ length old → cut ≡ take n new → cut ≡ old
+cut_same stamp old new cut n g len is = is ∙ ap (λ k. take k new) len ∙ ap (take (length old)) g.appended ∙ take-append_seam old g.more
+
 -- the store was cut back
 pub cut_within : (stamp : Stamp) (rows : List (ℕ × List Root)) (old new cut : List Node) (n before after : ℕ) → WellFormed old → GrowsWithin stamp rows old new before after → n ≡ length old → cut ≡ take n new → GrowsWithin stamp rows old cut before after
 cut_within stamp rows old new cut n before after w g len is =
-    let same : cut ≡ old = is ∙ ap (λ k. take k new) len ∙ ap (take (length old)) g.grows.appended ∙ take-append_seam old g.grows.more in
-    subst (λ nodes. GrowsWithin stamp rows old nodes before after) (sym same) (record {
+    subst (λ nodes. GrowsWithin stamp rows old nodes before after) (sym (cut_same stamp old new cut n g.grows len is)) (record {
       grows = grows_by_none stamp old w;
       pushes = (unchanged_within stamp rows old before w).pushes;
       steps = g.steps;

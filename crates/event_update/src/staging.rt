@@ -1,12 +1,9 @@
 //! The rows that an event stages, in memory that is used again from event to event.
-ghost use Rattle.std.specs.Prelude.{◌≡◌, ℕ, ◌+◌, ◌*◌, ◌<◌, ◌≤◌, List, [], ◌∷◌, ◌++◌, length, take, slice_get, slice_set, Some, OnOk, IfSome, IfNone, nat_eq};
+ghost use Rattle.std.specs.Prelude.{◌≡◌, ◌+◌, ◌<◌, ◌≤◌, [], ◌∷◌, ◌++◌, length, take, slice_get, slice_set, Some, OnOk, IfSome, IfNone, nat_eq};
 ghost use Rattle.std.specs.List.{IsDistinct};
-ghost use Rattle.event_update.specs.ActiveLists.{keys, values};
-ghost use Rattle.cer_base.specs.declared.node.Root.{Root};
-ghost use Rattle.cer_base.specs.Nodes.{WellFormed, Grows};
-ghost use Rattle.union_lists.specs.Lists.{CanInsert};
-ghost use Rattle.event_update.specs.Stands.{tops_rows};
-ghost use Rattle.event_update.specs.Update.{IsFirst, IsAbsent, IsAdded, AreUpto, entries_in};
+ghost use Rattle.event_update.specs.ActiveLists.{keys};
+ghost use Rattle.event_update.specs.Places.{AddsWithin, CanAdd};
+ghost use Rattle.event_update.specs.Update.{IsFirst, IsAbsent, IsAdded};
 
 use crate::ActiveStates;
 use cea_determinise::table::State;
@@ -159,18 +156,11 @@ pub fn add<S: NodeStore, L: Ledger>(
     id: Id,
     steps: &mut Steps<L>,
 ) -> Result<(), Memory>
-    requires well_formed { WellFormed (S.nodes store.old) }
-    requires place { k < length rows.old.entries }
-    requires can { (l : List Root) → slice_get (values rows.old) k ≡ Some l
-        → CanInsert (S.nodes store.old) l id }
+    requires { CanAdd (S.nodes store.old) rows.old.entries k id }
     ensures added { OnOk result (IsAdded (S.nodes store.old) rows.old.entries k id
         (S.nodes store.new) rows.new.entries) }
-    ensures grows { Grows (S.nodes store.old) (S.nodes store.new) }
-    ensures pushes { length (S.nodes store.new) ≤ length (S.nodes store.old) + 3 }
-    ensures steps { (x : ℕ) → AreUpto x (tops_rows rows.old.entries) → steps.new
-        ≤ steps.old + 2 * x + 11 }
-    ensures counted { OnOk result (entries_in rows.new.entries + steps.old
-        ≤ entries_in rows.old.entries + steps.new) }
+    ensures within { AddsWithin (S.nodes store.old) (S.nodes store.new) rows.old.entries
+        rows.new.entries steps.old steps.new result }
 {
     rows.rows[k].1.insert(store, id, steps)
 }

@@ -1,6 +1,7 @@
 -- What a cut leaves is what there was before.
 use Rattle.std.proofs.Common.{◌≡◌, ℕ, zero, suc, ◌+◌, ◌<◌, ◌≤◌, inl, inr, Bool, List, [], ◌∷◌, ◌++◌, map, take, length, refl, sym, ap, subst, ◌∙◌, Some, slice_get, slice_set, slice_index_or, arith}
 use Rattle.std.proofs.lemmas.List.Elements.{All-nil}
+use Rattle.cer_base.specs.Bits.{room_for}
 use Rattle.cer_base.specs.declared.node.Stamp.{Stamp}
 use Rattle.cer_base.specs.declared.node.Node.{Node}
 use Rattle.stream_schema.specs.declared.Value.{Value}
@@ -39,6 +40,10 @@ mid_table old mid key (inr h) = ap (λ (x : OpenMatches). x.table) h.1
 pub mid_nodes : (old mid : OpenMatches) (key : List Value) → TakesKey old key mid → mid.nodes ≡ old.nodes
 mid_nodes old mid key (inl h) = ap (λ (x : OpenMatches). x.nodes) h.1
 mid_nodes old mid key (inr h) = ap (λ (x : OpenMatches). x.nodes) h.1
+
+pub mid_bits : (bits : List Bool) (old mid : OpenMatches) (key : List Value) → TakesKey old key mid → length bits ≡ room_for old.table.cea.size → length bits ≡ room_for mid.table.cea.size
+mid_bits bits old mid key (inl h) room = room ∙ ap (λ (x : OpenMatches). room_for x.table.cea.size) (sym h.1)
+mid_bits bits old mid key (inr h) room = room ∙ ap (λ (x : OpenMatches). room_for x.table.cea.size) (sym h.1)
 
 mid_keys : (old mid : OpenMatches) (key : List Value) (n : ℕ) → TakesKey old key mid → n ≡ length old.keys → take n mid.keys ≡ old.keys
 mid_keys old mid key n (inl h) e = ap (λ (x : OpenMatches). take n x.keys) h.1 ∙ take_whole old.keys n e

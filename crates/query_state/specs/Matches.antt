@@ -1,11 +1,14 @@
 -- The open matches of a query, key by key, and what a key's event makes of them.
-use Rattle.std.specs.Prelude.{◌≡◌, ℕ, suc, ◌+◌, ℤ, ◌≤ℤ◌, ◌<◌, ◌≤◌, ◌⊎◌, Bool, true, false, ◌&&◌, if◌then◌else◌, List, [], ◌∷◌, ◌++◌, length, map, take, All, Contains, Option, Some, None, IfSome, slice_get, slice_index_or, nat_eq}
+use Rattle.std.specs.Prelude.{◌≡◌, ℕ, suc, ◌+◌, ◌*◌, ℤ, ◌≤ℤ◌, ◌<◌, ◌≤◌, ◌⊎◌, Bool, true, false, ◌&&◌, if◌then◌else◌, List, [], ◌∷◌, ◌++◌, length, map, take, All, Contains, Option, Some, None, Result, IfSome, IfNone, MatchOption, OnOk, OnErr, slice_get, slice_index_or, nat_eq}
 use Rattle.std.specs.List.{IsDistinct}
 use Rattle.stream_schema.specs.declared.Value.{Value}
-use Rattle.cer_base.specs.Bits.{has}
+use Rattle.cer_base.specs.Bits.{has, room_for}
 use Rattle.cer_base.specs.declared.node.Stamp.{Stamp}
 use Rattle.cer_base.specs.declared.node.Root.{Root}
 use Rattle.cer_base.specs.declared.node.Node.{Node}
+use Rattle.cer_base.specs.declared.node.Node.TheVariants.{Bottom}
+use Rattle.cer_base.specs.declared.Memory.{Memory}
+use Rattle.cer_base.specs.Nodes.{AreInStep, WellFormed}
 use Rattle.cer_base.specs.Repeats.{HasNoRepeats}
 use Rattle.cea_determinise.specs.declared.cea.Cea.{Cea}
 use Rattle.cea_determinise.specs.LazyDfa.{Table, StaysWithin, IsSound}
@@ -15,10 +18,12 @@ use Rattle.event_update.specs.declared.Staged.{Staged}
 use Rattle.event_update.specs.Reach.{Seen}
 use Rattle.event_update.specs.Stands.{seen, IsLater, Stands, CanAdvance}
 use Rattle.event_update.specs.Update.{Discovers, GrowsBy, rows_after, work_bound, IsWithinWork, accepted_entries}
+use Rattle.tecs_enumerate.specs.Remaining.{CursorState, rest, Fits}
 use Rattle.query_standing.specs.Kept.{Rows}
 use Rattle.event_update.specs.Dormancy.{HasNoReader, IsDormantState, AreDormant, AreNoOp}
 use Rattle.partition_table.specs.Keys.{are_at}
 use Rattle.query_state.specs.declared.matches.Sizes.{Sizes}
+use Rattle.query_state.specs.declared.matches.Ready.{Ready}
 use Rattle.query_state.specs.declared.lists.Lists.{Lists}
 
 -- What contracts see of the open matches: the states, the nodes, and the keys with the lists of each.
@@ -43,6 +48,16 @@ pub record MayBeDormant (t : Table) (sets : List (List Bool)) (l : Lists) : Type
   pub once : HasStatesOnce l.active.entries
   pub rest : l.is_dormant ≡ true → AreDormant t l.active.entries
   pub no_op : IfSome l.no_op (IsNoOpSet t sets l.active.entries)
+
+-- The lists have these entries, and what is known of them holds wherever this does.
+pub record AreKnown (Where : Table → List (List Bool) → Type 0) (entries : Rows) (l : Lists) : Type 0 where
+  pub rows : l.active.entries ≡ entries
+  pub is_dormant : (t : Table) (sets : List (List Bool)) → Where t sets → MayBeDormant t sets l
+
+-- The set of these leaves has the number, where one is told, and each set that was there has its own.
+pub record IsNumberOf (told : Option ℕ) (old new : List (List Bool)) (bits : List Bool) : Type 0 where
+  pub is : IfSome told (λ n. slice_get new n ≡ Some bits)
+  pub kept : (n : ℕ) (leaves : List Bool) → slice_get old n ≡ Some leaves → slice_get new n ≡ Some leaves
 
 -- how many keys' lists are not known to be dormant
 abbrev pub active_keys_in : List Lists → ℕ
@@ -146,6 +161,19 @@ pub record HasBegun (m : Sizes) (number : ℕ) (mid : OpenMatches) : Type 0 wher
 abbrev pub CanTake : Stamp → OpenMatches → Type 0
 CanTake stamp h = (n : ℕ) (rows : Rows) → slice_get h.rows n ≡ Some rows → CanAdvance h.table stamp h.nodes rows
 
+-- What is asked before an event of these leaves is worked out: the nodes and the event are in step, and each key's lists can take it in.
+pub record CanWork (stamp : Stamp) (bits : List Bool) (h : OpenMatches) : Type 0 where
+  pub well_formed : WellFormed h.nodes
+  pub in_step : AreInStep (h.nodes ++ Bottom stamp ∷ [])
+  pub bits_are : length bits ≡ room_for h.table.cea.size
+  pub can : CanTake stamp h
+
+-- What was there is told by the sizes, and is as it was where memory ran out; the steps are few.
+pub record HasAdvanced (result : Result Ready Memory) (m : Sizes) (old new : OpenMatches) (before after : ℕ) : Type 0 where
+  pub sizes : OnOk result ((cut m new ≡ old) × CanCut m new)
+  pub refused : OnErr result (new ≡ old)
+  pub steps : OnOk result (after ≤ before + work_bound (length new.table.states))
+
 -- The lists of a key after an event are worked out, and not yet in place: the key is there, states and nodes are added. What stands from the low clock on still stands.
 pub record IsReady (stamp : Stamp) (low : ℤ) (bits : List Bool) (key : List Value) (number : ℕ) (staged : Staged) (old new : OpenMatches) : Type 0 where
   pub mid : OpenMatches
@@ -200,3 +228,12 @@ CanList h (Some number) = HasLists h number
 abbrev pub entries_for : OpenMatches → Option ℕ → List Root
 entries_for h None = []
 entries_for h (Some number) = accepted_entries h.table (slice_index_or h.rows number [])
+
+-- What a cursor gives next: a start with the positions that the cursor has then, or nothing more. It stays the same cursor, fits, and takes no memory.
+pub record GivesNext (result : Option Stamp) (nodes : List Node) (old new : CursorState) (before after : ℕ) : Type 0 where
+  pub answer : MatchOption result (rest old nodes ≡ []) (λ start. rest old nodes ≡ record { start = start; positions = new.path } ∷ rest new nodes)
+  pub none : IfNone result ((rest new nodes ≡ []) × (new.path ≡ []))
+  pub fits : Fits new nodes
+  pub same : (new.query ≡ old.query) × (new.low ≡ old.low)
+  pub room : new.room ≡ old.room
+  pub delay : MatchOption result (after ≤ before + 1) (λ start. after ≤ before + 4 * (length new.path + 1))

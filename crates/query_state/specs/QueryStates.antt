@@ -1,5 +1,5 @@
 -- A query state while an event is prepared: it is still seen as what it was, and what a commit makes of it is told.
-use Rattle.std.specs.Prelude.{◌≡◌, ◌≢◌, ℕ, ◌<◌, ◌==◌, ℤ, Bool, true, false, ◌||◌, List, [], length, map, Option, Some, None, slice_set, slice_index_or}
+use Rattle.std.specs.Prelude.{◌≡◌, ◌≢◌, ℕ, ◌<◌, ◌==◌, ℤ, Bool, true, false, ◌||◌, List, [], length, map, All, Option, Some, None, slice_set, slice_index_or}
 use Rattle.std.specs.List.{list_any}
 use Rattle.stream_schema.specs.Types.{Declared}
 use Rattle.stream_schema.specs.Events.{IsOfSchema}
@@ -20,7 +20,7 @@ use Rattle.event_update.specs.declared.Staged.{Staged}
 use Rattle.event_update.specs.Update.{rows_after}
 use Rattle.event_update.specs.Dormancy.{IsSkipInsensitive}
 use Rattle.window_clock.specs.declared.Source.{Source}
-use Rattle.window_clock.specs.Places.{Seen, clock_in, IsOf}
+use Rattle.window_clock.specs.Places.{Seen, clock_in, IsOf, HasWidth}
 use Rattle.query_standing.specs.Clocks.{Reads}
 use Rattle.query_standing.specs.Kept.{QueryState, QueryStateStands}
 use Rattle.query_state.specs.declared.state.Step.{Step}
@@ -132,3 +132,8 @@ pub record IsMade (schema : Declared) (q : Query) (table : List Bool) (places : 
 pub record HasEvents (p : Phase) : Type 0 where
   pub events : List Event
   pub stands : StandsAt events p
+
+-- What is asked of a query's window, and of the query states that its clock may be shared with: they are of the same schema.
+pub record CanShare (schema : Declared) (window : Window) (others : List Phase) : Type 0 where
+  pub wide : HasWidth window
+  pub others_are : All (λ (p : Phase). p.schema ≡ schema) others

@@ -1,8 +1,8 @@
 //! Keys without lists are removed.
 
 ghost use Rattle.std.specs.Prelude.{◌≡◌, ◌+◌, ◌-◌, ◌<◌, ◌≤◌, [], slice_get, ℕ, Some, None, true, false, length};
-ghost use Rattle.query_standing.specs.Giving.{AreRemoved, renumbered};
-ghost use Rattle.query_state.specs.Dropping.{rows_of, HaveLists};
+ghost use Rattle.query_standing.specs.Giving.{renumbered};
+ghost use Rattle.query_state.specs.Dropping.{rows_of, HaveLists, HaveRemoved};
 
 use crate::lists::Lists;
 use partition_table::Keys;
@@ -74,9 +74,7 @@ fn remove_one(
 ) -> Option<u64>
     requires inside { number < length lists.old.items }
     requires count { length keys.old ≡ length lists.old.items }
-    ensures given { AreRemoved keys.old (rows_of lists.old.items) told keys.new
-        (rows_of lists.new.items) result }
-    ensures count { length keys.new ≡ length lists.new.items }
+    ensures removed { HaveRemoved keys.old lists.old.items told keys.new lists.new.items result }
     ensures few { number ≤ length lists.new.items }
     ensures kept { HaveLists (number + 1) (rows_of lists.old.items) told
         → HaveLists number (rows_of lists.new.items) result }
@@ -94,9 +92,7 @@ fn remove_one(
 /// the answer. It goes through the keys once, and takes no memory.
 pub fn remove_all(lists: &mut Vec<Lists>, keys: &mut Keys, told: Option<u64>) -> Option<u64>
     requires count { length keys.old ≡ length lists.old.items }
-    ensures given { AreRemoved keys.old (rows_of lists.old.items) told keys.new
-        (rows_of lists.new.items) result }
-    ensures count { length keys.new ≡ length lists.new.items }
+    ensures removed { HaveRemoved keys.old lists.old.items told keys.new lists.new.items result }
     ensures kept { HaveLists 0 (rows_of lists.new.items) result }
 {
     let mut now = told;

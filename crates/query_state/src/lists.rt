@@ -6,7 +6,7 @@ ghost use Rattle.event_update.specs.ActiveLists.{keys};
 ghost use Rattle.event_update.specs.Dormancy.{HasNoReader, IsDormantState, AreDormant, AreNoOp};
 ghost use Rattle.event_update.specs.declared.Staged.TheVariants.{Unchanged};
 ghost use Rattle.event_update.specs.Update.{rows_after};
-ghost use Rattle.query_state.specs.Matches.{IsNoOpSet, MayBeDormant, active_keys_in, AreDormantStates};
+ghost use Rattle.query_state.specs.Matches.{IsNoOpSet, MayBeDormant, active_keys_in, AreDormantStates, AreKnown, IsNumberOf};
 
 use arena_compact::HasLists;
 use cea_determinise::table::State;
@@ -42,9 +42,8 @@ impl Lists {
     /// Puts them in place. They are dormant where the event leaves them as they were and they were
     /// dormant.
     fn replace(&mut self, stage: &mut Stage, staged: Staged)
-        ensures rows { self.new.active.entries ≡ rows_after self.old.active.entries staged }
-        ensures is_dormant { (t : Table) (sets : List (List Bool)) → MayBeDormant t sets self.old
-            → MayBeDormant t sets self.new }
+        ensures { AreKnown (λ t sets. MayBeDormant t sets self.old)
+            (rows_after self.old.active.entries staged) self.new }
     {
         let stays = is_unchanged(&staged);
         commit(&mut self.active, stage, staged);
@@ -56,10 +55,9 @@ impl Lists {
     /// Puts the staged lists in place. If that is looked at, they are dormant too where their
     /// states are all known to be dormant.
     pub fn put(&mut self, dormant_states: &[bool], looks: bool, stage: &mut Stage, staged: Staged)
-        ensures rows { self.new.active.entries ≡ rows_after self.old.active.entries staged }
-        ensures is_dormant { (t : Table) (sets : List (List Bool))
-            → AreDormantStates t dormant_states.now
-            → MayBeDormant t sets self.old → MayBeDormant t sets self.new }
+        ensures { AreKnown
+            (λ t sets. AreDormantStates t dormant_states.now × MayBeDormant t sets self.old)
+            (rows_after self.old.active.entries staged) self.new }
     {
         self.replace(stage, staged);
         if looks {
@@ -69,8 +67,7 @@ impl Lists {
 
     /// Nothing is known of them, but that they are dormant where there are none.
     fn forget(&mut self)
-        ensures rows { self.new.active.entries ≡ self.old.active.entries }
-        ensures is_dormant { (t : Table) (sets : List (List Bool)) → MayBeDormant t sets self.new }
+        ensures { AreKnown (λ t sets. Unit {0}) self.old.active.entries self.new }
     {
         self.is_dormant = self.active.len() == 0;
         self.no_op = None;
@@ -78,10 +75,9 @@ impl Lists {
 
     /// Notes that they are dormant, where their states are all known to be dormant.
     pub fn look(&mut self, dormant_states: &[bool])
-        ensures rows { self.new.active.entries ≡ self.old.active.entries }
-        ensures is_dormant { (t : Table) (sets : List (List Bool))
-            → AreDormantStates t dormant_states.now
-            → MayBeDormant t sets self.old → MayBeDormant t sets self.new }
+        ensures { AreKnown
+            (λ t sets. AreDormantStates t dormant_states.now × MayBeDormant t sets self.old)
+            self.old.active.entries self.new }
     {
         if are_dormant_states(&self.active, dormant_states) {
             self.is_dormant = true;
@@ -90,10 +86,8 @@ impl Lists {
 
     /// Looks at them anew.
     pub fn look_again(&mut self, dormant_states: &[bool])
-        ensures rows { self.new.active.entries ≡ self.old.active.entries }
-        ensures is_dormant { (t : Table) (sets : List (List Bool))
-            → AreDormantStates t dormant_states.now
-            → MayBeDormant t sets self.new }
+        ensures { AreKnown (λ t sets. AreDormantStates t dormant_states.now)
+            self.old.active.entries self.new }
     {
         self.forget();
         self.look(dormant_states);
@@ -102,11 +96,9 @@ impl Lists {
     /// Notes that events of the leaves of the set of this number leave them as they are, where one is
     /// told.
     pub fn learn(&mut self, number: Option<u8>)
-        ensures rows { self.new.active.entries ≡ self.old.active.entries }
+        ensures are { AreKnown (λ t sets. IfSome number (IsNoOpSet t sets self.old.active.entries)
+            × MayBeDormant t sets self.old) self.old.active.entries self.new }
         ensures known { self.new.is_dormant ≡ self.old.is_dormant }
-        ensures is_dormant { (t : Table) (sets : List (List Bool))
-            → IfSome number (IsNoOpSet t sets self.old.active.entries)
-            → MayBeDormant t sets self.old → MayBeDormant t sets self.new }
     {
         self.no_op = number;
     }
@@ -160,9 +152,7 @@ fn find_set(sets: &[Bits], bits: &Bits) -> Option<u8>
 
 /// Keeps the set, where there is room and memory for it. Its number.
 fn add_set(sets: &mut Vec<Bits>, alloc: Global, bits: &Bits) -> Option<u8>
-    ensures is { IfSome result (λ n. slice_get sets.new.items n ≡ Some bits.now) }
-    ensures kept { (n : ℕ) (leaves : List Bool) → slice_get sets.old.items n ≡ Some leaves
-        → slice_get sets.new.items n ≡ Some leaves }
+    ensures { IsNumberOf result sets.old.items sets.new.items bits.now }
 {
     let number = short(sets.len())?;
     if KEPT_SETS <= number {
@@ -179,9 +169,7 @@ fn add_set(sets: &mut Vec<Bits>, alloc: Global, bits: &Bits) -> Option<u8>
 
 /// The number of the set of these leaves, which is put in where there is room and memory for it.
 pub fn number_of_set(sets: &mut Vec<Bits>, alloc: Global, bits: &Bits) -> Option<u8>
-    ensures is { IfSome result (λ n. slice_get sets.new.items n ≡ Some bits.now) }
-    ensures kept { (n : ℕ) (leaves : List Bool) → slice_get sets.old.items n ≡ Some leaves
-        → slice_get sets.new.items n ≡ Some leaves }
+    ensures { IsNumberOf result sets.old.items sets.new.items bits.now }
 {
     match find_set(sets.as_slice(), bits) {
         Some(number) => Some(number),

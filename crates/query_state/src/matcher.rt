@@ -6,10 +6,10 @@ ghost use Rattle.cea_determinise.specs.Cea.{automaton_of_cea};
 ghost use Rattle.cea_compile.specs.LeafAutomaton.{automaton_of_leaves};
 ghost use Rattle.event_update.specs.Dormancy.{IsSkipInsensitive};
 ghost use Rattle.query_leaves.specs.Lawful.{AreNumbered};
-ghost use Rattle.window_clock.specs.Places.{IsOf, HasWidth};
+ghost use Rattle.window_clock.specs.Places.{IsOf};
 ghost use Rattle.query_state.specs.Matches.{none_open};
 ghost use Rattle.query_state.specs.KeyPlaces.{AreKeyPlaces};
-ghost use Rattle.query_state.specs.QueryStates.{AreTypesRead, IsMatcherOf, HasAutomaton, AreFirst, MayBeSkipInsensitive, MayBeWhole};
+ghost use Rattle.query_state.specs.QueryStates.{AreTypesRead, CanShare, IsMatcherOf, HasAutomaton, AreFirst, MayBeSkipInsensitive, MayBeWhole};
 
 use crate::QueryState;
 use crate::matches::Matches;
@@ -46,8 +46,7 @@ impl Reading {
         query: &Query,
         others: &[QueryState],
     ) -> Result<Reading, Memory>
-        requires wide { HasWidth query.now.window }
-        requires others { All (λ p. p.schema ≡ schema.now) others.now }
+        requires { CanShare schema.now query.now.window others.now }
         ensures types { IfOk result (λ r. AreTypesRead schema.now query.now r.types.value.items) }
         ensures keys { IfOk result (λ r. AreKeyPlaces schema.now query.now r.keys.value.items) }
         ensures clock { IfOk result (λ r. IsOf schema.now query.now.window r.clock.source) }

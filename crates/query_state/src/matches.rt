@@ -19,7 +19,7 @@ ghost use Rattle.arena_compact.specs.Roots.{places};
 ghost use Rattle.arena_compact.specs.Compacted.{least_of, Compacted, KeysCompacted, CursorCompacted};
 ghost use Rattle.query_standing.specs.Giving.{AreRemoved};
 ghost use Rattle.query_state.specs.Dropping.{HaveListsButOne};
-ghost use Rattle.query_state.specs.Matches.{OpenMatches, HasStatesOnce, MayBeDormant, active_keys_in, AreDormantStates, HasKeyThere, HasNoneOf, HasBegun, MayPass, none_open, cut, CanCut, AreSizes, TakesKey, CanTake, IsReady, HasWorked, CanList, entries_for};
+ghost use Rattle.query_state.specs.Matches.{OpenMatches, HasStatesOnce, MayBeDormant, active_keys_in, AreDormantStates, HasKeyThere, HasNoneOf, HasBegun, MayPass, none_open, cut, CanCut, AreSizes, TakesKey, CanTake, IsReady, HasWorked, CanList, entries_for, CanWork, HasAdvanced, GivesNext};
 
 use crate::dropping::{key_to_stay, number_of, remove_all};
 use crate::lists::{Lists, is_unchanged, look_over, note, number_of_set, put_lists, shrink};
@@ -274,10 +274,7 @@ impl Matches {
         steps: &mut Steps<L>,
     ) -> Result<Ready, Memory>
         requires begun { HasBegun sizes.now number self.old }
-        requires well_formed { WellFormed self.old.nodes }
-        requires in_step { AreInStep (self.old.nodes ++ Bottom stamp ∷ []) }
-        requires bits { length bits.now ≡ room_for self.old.table.cea.size }
-        requires can { CanTake stamp self.old }
+        requires event { CanWork stamp bits.now self.old }
         ensures ready { IfOk result (λ r. (b : HasBegun sizes.now number self.old)
             → IsReady stamp low
             bits.now b.key r.number r.staged b.before self.new) }
@@ -344,18 +341,11 @@ impl Matches {
         low: LowTime,
         steps: &mut Steps<L>,
     ) -> Result<Ready, Memory>
-        requires well_formed { WellFormed self.old.nodes }
-        requires in_step { AreInStep (self.old.nodes ++ Bottom stamp ∷ []) }
-        requires bits { length bits.now ≡ room_for self.old.table.cea.size }
-        requires can { CanTake stamp self.old }
+        requires event { CanWork stamp bits.now self.old }
         ensures ready { IfOk result
             (λ r. IsReady stamp low bits.now key.now r.number r.staged self.old
             self.new) }
-        ensures sizes { OnOk result ((cut sizes.new self.new ≡ self.old)
-            × CanCut sizes.new self.new) }
-        ensures refused { OnErr result (self.new ≡ self.old) }
-        ensures steps { OnOk result (steps.new
-            ≤ steps.old + work_bound (length self.new.table.states)) }
+        ensures advanced { HasAdvanced result sizes.new self.old self.new steps.old steps.new }
         ensures worked { (steps.new ≡ steps.old)
             ⊎ HasWorked bits.now key.now self.old steps.old steps.new }
     {
@@ -375,17 +365,10 @@ impl Matches {
         steps: &mut Steps<L>,
     ) -> Result<Ready, Memory>
         requires there { (key : List Datum) × (slice_get self.old.keys number ≡ Some key) }
-        requires well_formed { WellFormed self.old.nodes }
-        requires in_step { AreInStep (self.old.nodes ++ Bottom stamp ∷ []) }
-        requires bits { length bits.now ≡ room_for self.old.table.cea.size }
-        requires can { CanTake stamp self.old }
+        requires event { CanWork stamp bits.now self.old }
         ensures ready { IfOk result (λ r. (key : List Datum) → slice_get self.old.keys number
             ≡ Some key → IsReady stamp low bits.now key r.number r.staged self.old self.new) }
-        ensures sizes { OnOk result ((cut sizes.new self.new ≡ self.old)
-            × CanCut sizes.new self.new) }
-        ensures refused { OnErr result (self.new ≡ self.old) }
-        ensures steps { OnOk result (steps.new
-            ≤ steps.old + work_bound (length self.new.table.states)) }
+        ensures advanced { HasAdvanced result sizes.new self.old self.new steps.old steps.new }
         ensures worked { (key : List Datum) → slice_get self.old.keys number ≡ Some key
             → HasWorked bits.now key self.old steps.old steps.new }
     {
@@ -553,17 +536,7 @@ impl Matches {
     pub fn next<L: Ledger>(&self, cursor: &mut Cursor, steps: &mut Steps<L>) -> Option<Stamp>
         requires well_formed { WellFormed self.now.nodes }
         requires fits { Fits cursor.old self.now.nodes }
-        ensures answer { MatchOption result (rest cursor.old self.now.nodes ≡ [])
-            (λ start. rest cursor.old self.now.nodes
-            ≡ record { start = start; positions = cursor.new.path } ∷ rest cursor.new
-            self.now.nodes) }
-        ensures none { IfNone result ((rest cursor.new self.now.nodes ≡ [])
-            × (cursor.new.path ≡ [])) }
-        ensures fits { Fits cursor.new self.now.nodes }
-        ensures same { (cursor.new.query ≡ cursor.old.query) × (cursor.new.low ≡ cursor.old.low) }
-        ensures room { cursor.new.room ≡ cursor.old.room }
-        ensures delay { MatchOption result (steps.new ≤ steps.old + 1)
-            (λ start. steps.new ≤ steps.old + 4 * (length cursor.new.path + 1)) }
+        ensures { GivesNext result self.now.nodes cursor.old cursor.new steps.old steps.new }
     {
         cursor.next(&self.store, steps)
     }

@@ -1,12 +1,10 @@
 //! The lists of the key that an event has.
 
 ghost use Rattle.std.specs.Prelude.{◌≡◌, ◌+◌, ◌<◌, ◌≤◌, ◌⊎◌, ◌&&◌, Bool, true, false, List, [], ◌∷◌, ◌++◌, length, Option, Some, None, slice_get, slice_index_or, IfOk, IfSome, IfNone, OnOk, OnErr, ℕ};
-ghost use Rattle.cer_base.specs.Bits.{has, room_for};
-ghost use Rattle.cer_base.specs.Nodes.{AreInStep, WellFormed};
-ghost use Rattle.cer_base.specs.declared.node.Node.TheVariants.{Bottom};
+ghost use Rattle.cer_base.specs.Bits.{has};
 ghost use Rattle.event_update.specs.Update.{work_bound};
 ghost use Rattle.query_state.specs.KeyPlaces.{key_there};
-ghost use Rattle.query_state.specs.Matches.{HasKeyThere, CanTake, cut, CanCut, Stays, OwnNone, IsOwnReady, HasOwnWorked};
+ghost use Rattle.query_state.specs.Matches.{HasKeyThere, CanWork, cut, CanCut, Stays, OwnNone, IsOwnReady, HasOwnWorked};
 ghost use Rattle.query_state.specs.Own.{HasNumberThere, IsOwn};
 ghost use Rattle.stream_schema.specs.declared.Event.{Event as EventData};
 
@@ -190,10 +188,7 @@ pub fn advance_own<L: Ledger>(
 ) -> Result<Option<Ready>, Memory>
     requires own { IsOwn own matches.old table.now event.now first.now bits.now skip_insensitive }
     requires room { length first.now ≡ length bits.now }
-    requires well_formed { WellFormed matches.old.nodes }
-    requires in_step { AreInStep (matches.old.nodes ++ Bottom stamp ∷ []) }
-    requires bits { length bits.now ≡ room_for matches.old.table.cea.size }
-    requires can { CanTake stamp matches.old }
+    requires event { CanWork stamp bits.now matches.old }
     ensures stays { IfOk result (λ o. IfNone o ((matches.new ≡ matches.old)
         × (steps.new ≡ steps.old)
         × Stays matches.old (key_there table.now event.now) first.now bits.now skip_insensitive)) }

@@ -2,9 +2,9 @@
 //! long as there are types.
 
 ghost use Rattle.std.specs.Prelude.{◌≡◌, true, None, All, IfOk, IfSome};
-ghost use Rattle.window_clock.specs.Places.{HasWidth, IsOf, NameOneAttribute};
+ghost use Rattle.window_clock.specs.Places.{IsOf, NameOneAttribute};
 ghost use Rattle.query_state.specs.KeyPlaces.{AreKeyPlaces};
-ghost use Rattle.query_state.specs.QueryStates.{AreTypesRead, IsFirstClock, texts_of};
+ghost use Rattle.query_state.specs.QueryStates.{AreTypesRead, IsFirstClock, CanShare, texts_of};
 
 use crate::QueryState;
 use crate::reading::{Places, key_places};
@@ -58,26 +58,8 @@ fn shared<T: Drop>(alloc: Global, table: Vec<T>) -> Result<Rc<Vec<T>>, Memory>
     }
 }
 
-/// For each type whether the query reads it, as another one has it over the same streams.
-fn types_shared(
-    schema: &Schema,
-    query: &Query,
-    others: &[QueryState],
-) -> Result<Option<Rc<Vec<bool>>>, Memory>
-    requires { All (λ p. p.schema ≡ schema.now) others.now }
-    ensures { IfOk result (λ o. IfSome o
-        (λ table. AreTypesRead schema.now query.now table.value.items)) }
-{
-    for k in 0..others.len() {
-        let other = &others[k];
-        if same_names(other.query().streams.as_slice(), query.streams.as_slice()) {
-            return Ok(Some(other.types()?));
-        }
-    }
-    Ok(None)
-}
-
-/// For each type whether the query reads it.
+/// For each type whether the query reads it. Where another one is over the same streams, it is as that
+/// one has it.
 pub fn types_of(
     alloc: Global,
     schema: &Schema,
@@ -87,36 +69,17 @@ pub fn types_of(
     requires { All (λ p. p.schema ≡ schema.now) others.now }
     ensures { IfOk result (λ table. AreTypesRead schema.now query.now table.value.items) }
 {
-    match types_shared(schema, query, others)? {
-        Some(table) => Ok(table),
-        None => shared(alloc, types_read(alloc, schema, query)?),
-    }
-}
-
-/// For each type the places of the query's partition attributes, as another one has them that is
-/// partitioned by the same ones.
-fn keys_shared(
-    schema: &Schema,
-    query: &Query,
-    others: &[QueryState],
-) -> Result<Option<Rc<Vec<Option<Places>>>>, Memory>
-    requires { All (λ p. p.schema ≡ schema.now) others.now }
-    ensures { IfOk result (λ o. IfSome o
-        (λ table. AreKeyPlaces schema.now query.now table.value.items)) }
-{
     for k in 0..others.len() {
         let other = &others[k];
-        if same_names(
-            other.query().partition.as_slice(),
-            query.partition.as_slice(),
-        ) {
-            return Ok(Some(other.keys()?));
+        if same_names(other.query().streams.as_slice(), query.streams.as_slice()) {
+            return Ok(other.types()?);
         }
     }
-    Ok(None)
+    shared(alloc, types_read(alloc, schema, query)?)
 }
 
-/// For each type the places of the query's partition attributes.
+/// For each type the places of the query's partition attributes. Where another one is partitioned by the
+/// same ones, they are as that one has them.
 pub fn keys_of(
     alloc: Global,
     schema: &Schema,
@@ -126,10 +89,16 @@ pub fn keys_of(
     requires { All (λ p. p.schema ≡ schema.now) others.now }
     ensures { IfOk result (λ table. AreKeyPlaces schema.now query.now table.value.items) }
 {
-    match keys_shared(schema, query, others)? {
-        Some(table) => Ok(table),
-        None => shared(alloc, key_places(alloc, schema, query)?),
+    for k in 0..others.len() {
+        let other = &others[k];
+        if same_names(
+            other.query().partition.as_slice(),
+            query.partition.as_slice(),
+        ) {
+            return Ok(other.keys()?);
+        }
     }
+    shared(alloc, key_places(alloc, schema, query)?)
 }
 
 /// The query's clock before any event, as another one makes it whose window is on the same attribute.
@@ -138,8 +107,7 @@ fn clock_shared(
     query: &Query,
     others: &[QueryState],
 ) -> Result<Option<Clock>, Memory>
-    requires wide { HasWidth query.now.window }
-    requires others { All (λ p. p.schema ≡ schema.now) others.now }
+    requires { CanShare schema.now query.now.window others.now }
     ensures { IfOk result (λ o. IfSome o (IsFirstClock schema.now query.now.window)) }
 {
     for k in 0..others.len() {
@@ -158,8 +126,7 @@ pub fn clock_of(
     query: &Query,
     others: &[QueryState],
 ) -> Result<Clock, Memory>
-    requires wide { HasWidth query.now.window }
-    requires others { All (λ p. p.schema ≡ schema.now) others.now }
+    requires { CanShare schema.now query.now.window others.now }
     ensures { IfOk result (IsFirstClock schema.now query.now.window) }
 {
     match clock_shared(schema, query, others)? {

@@ -1,4 +1,4 @@
-use Rattle.std.proofs.Common.{◌≡◌, ℕ, ℤ, map, get_or, sym, ◌∙◌, arith}
+use Rattle.std.proofs.Common.{ℕ, ℤ, map, get_or, sym, ◌∙◌, arith}
 use Rattle.std.proofs.lemmas.List.{length-map}
 use Rattle.arena_compact.specs.Marks.{IsKeptFrom}
 use Rattle.arena_compact.specs.Compacted.{least_of}
@@ -35,5 +35,6 @@ returns-clause-compacted g c =
       lists = keys_compacted c.args.lows.now _ _ _ _ c.requires.can.well_formed c.move_nodes.ensures.moved c.args.low (least_of c.args.query c.args.low ws)
           (all_recent c.args.low c.args.query _ _ _ _ _ keys _ ws _ c.requires.can.well_formed c.requires.marks c.move_nodes.ensures.moved c.move_keys.ensures.moved count (λ k d lt. c.move_cursors.ensures.moved k d (omega arith)))
           keys _ c.requires.can.lists (entries_kept Kept c.args.low c.args.query keys ws c.requires.marks.rooted) c.move_keys.ensures.moved;
+      count = count;
       cursors = λ k d lt. cursor_compacted c.args.lows.now _ _ _ _ c.requires.can.well_formed c.move_nodes.ensures.moved _ c.requires.marks c.args.query _ _ (λ mine. (λ j i within. (cursor_kept Kept c.args.low c.args.query keys ws k d lt mine c.requires.marks.rooted j i within).upto, c.requires.can.cursors k d lt mine)) (c.move_cursors.ensures.moved k d (omega arith));
     }

@@ -6,13 +6,14 @@ use Rattle.arena_compact.specs.Roots.{stack_roots, cursor_roots}
 use Rattle.arena_compact.proofs.Readings.{mapped_read, all_read, roots_next}
 use Rattle.arena_compact.proofs.cursors.keep_cursors.Goals as goal
 
-pub keep_if-requires-clause-inside : goal.keep_if-requires-clause-inside
-keep_if-requires-clause-inside g c =
+pub keep_if-requires : goal.keep_if-requires
+keep_if-requires g c =
     let f = g.C.HasCursor.walk in
     let at = mapped_read f c.args.cursors.now c.loop-k.k c.index-cursors-k.result c.loop-k-test.true c.index-cursors-k.is in
     let n = length-map c.args.cursors.now f in
     let lt : c.loop-k.k < length (map f c.args.cursors.now) = omega arith in
-    rw (c.cursor.ensures, c.loop-k.invariant.long) (all_read (λ (w : CursorState). w.query ≡ c.args.query → All (λ id. id < length c.args.table.now) (map id_of w.stack)) (map f c.args.cursors.now) c.loop-k.k (f c.index-cursors-k.result) lt at c.requires.inside)
+    let long = c.loop-k.invariant.long in let wide = c.loop-k.invariant.wide in let even = c.requires.even in
+    record { inside = rw (c.cursor.ensures, c.loop-k.invariant.long) (all_read (λ (w : CursorState). w.query ≡ c.args.query → All (λ id. id < length c.args.table.now) (map id_of w.stack)) (map f c.args.cursors.now) c.loop-k.k (f c.index-cursors-k.result) lt at c.requires.inside); even = omega arith }
 
 pub loop-k-preserved : goal.loop-k-preserved
 loop-k-preserved g c =
@@ -33,9 +34,12 @@ loop-k-preserved g c =
       few = omega arith;
     }
 
-pub returns-clause-marks : goal.returns-clause-marks
-returns-clause-marks g c = λ nodes roots le fits h.
-    let ws = map g.C.HasCursor.walk c.args.cursors.now in
-    let few = c.loop-k.invariant.few in let n = length-map c.args.cursors.now g.C.HasCursor.walk in
-    let all : take c.loop-k.k ws ≡ ws = take_all c.loop-k.k ws (omega arith) in
-    rw all at (c.loop-k.invariant.marks nodes roots le fits h)
+pub returns : goal.returns
+returns g c = record {
+  marks = λ nodes roots le fits h.
+      let ws = map g.C.HasCursor.walk c.args.cursors.now in
+      let few = c.loop-k.invariant.few in let n = length-map c.args.cursors.now g.C.HasCursor.walk in
+      let all : take c.loop-k.k ws ≡ ws = take_all c.loop-k.k ws (omega arith) in
+      rw all at (c.loop-k.invariant.marks nodes roots le fits h);
+  long = (c.loop-k.invariant.long, c.loop-k.invariant.wide);
+}

@@ -13,8 +13,8 @@ meets-requires c =
     let p = c.index-as_slice-k.result in
     let within : k < length states = omega (arith, c.loop-k-test.true, c.len-k-end.ensures.len) in
     let is : p ≡ get_or states k p = c.index-as_slice-k.is ∙ ap (λ (xs : List StateSets). get_or xs k p) c.as_slice.ensures.keys in
-    let below = subst (HasLeavesBelow c.args.cea.now.size) (sym is) (c.requires.states k p within) in
-    below.fresh.room ∙ sym c.requires.well_formed.last.room
+    let below = subst (HasLeavesBelow c.args.cea.now.size) (sym is) (c.requires.states.sets k p within) in
+    below.fresh.room ∙ sym c.requires.states.well_formed.last.room
 
 pub loop-k-preserved : goal.loop-k-preserved
 loop-k-preserved c =
@@ -24,7 +24,7 @@ loop-k-preserved c =
     let p = c.index-as_slice-k.result in
     let within : k < length states = omega (arith, c.loop-k-test.true, c.len-k-end.ensures.len) in
     let is : p ≡ get_or states k p = c.index-as_slice-k.is ∙ ap (λ (xs : List StateSets). get_or xs k p) c.as_slice.ensures.keys in
-    let below = subst (HasLeavesBelow cea.size) (sym is) (c.requires.states k p within) in
+    let below = subst (HasLeavesBelow cea.size) (sym is) (c.requires.states.sets k p within) in
     let told = c.loop-k.accepting.items in
     let b = c.meets.result in
     let count = c.loop-k.invariant.count in

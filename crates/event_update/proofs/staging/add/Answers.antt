@@ -22,17 +22,13 @@ returns-clause-added g c =
     let same = ap (λ (a : ActiveLists). a.entries) c.rows.view_is in
     both_ok c.insert.result _ _ _ (λ list inserted. added_staged _ _ c.rows.inside.rows.items c.args.rows.now.entries c.rows.inside.used c.args.k c.args.id c.index_mut.result.now c.insert.new.self same c.index_mut.ensures.value c.requires.place list inserted) c.insert.ensures.list c.insert.ensures.inserted
 
-pub returns-clause-steps : goal.returns-clause-steps
-returns-clause-steps g c x all =
+pub returns-clause-within : goal.returns-clause-within
+returns-clause-within g c =
     let same = ap (λ (a : ActiveLists). a.entries) c.rows.view_is in
     let read = read_staged c.rows.inside.rows.items c.args.rows.now.entries c.rows.inside.used c.args.k c.index_mut.result.now same c.index_mut.ensures.value c.requires.place in
     let at = list_read (take c.rows.inside.used c.rows.inside.rows.items) c.args.rows.now.entries c.args.k c.index_mut.result.now same read c.requires.place in
-    let short = short_at c.args.rows.now.entries c.args.k x c.index_mut.result.now.1 at all in
-    let s = c.insert.ensures.steps in
-    omega arith
-
-pub returns-clause-counted : goal.returns-clause-counted
-returns-clause-counted g c =
-    let same = ap (λ (a : ActiveLists). a.entries) c.rows.view_is in
     let e = entries_staged c.rows.inside.rows.items c.args.rows.now.entries c.rows.inside.used c.args.k c.index_mut.result.now c.insert.new.self same c.index_mut.ensures.value c.requires.place in
-    on_ok c.insert.result _ _ (λ s. omega (arith, e, s)) c.insert.ensures.counted
+    record {
+      places = record { grows = c.insert.ensures.grows; pushes = c.insert.ensures.pushes; counted = on_ok c.insert.result _ _ (λ s. omega (arith, e, s)) c.insert.ensures.counted };
+      steps = λ x all. let short = short_at c.args.rows.now.entries c.args.k x c.index_mut.result.now.1 at all in let s = c.insert.ensures.steps in omega arith;
+    }

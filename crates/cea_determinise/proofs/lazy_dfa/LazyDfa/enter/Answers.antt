@@ -42,16 +42,13 @@ returns-in_err-unmarked-clause-states g c =
     subst (λ (o : Table). Reached o s b (record { cea = t.cea; event_classes = t.event_classes; states = c.number-2.new.states.keys; transitions = t.transitions })) c.self.view_is
     (reached_two t s b c.args.both c.number.new.states.keys c.number-2.new.states.keys t.transitions are c.number.ensures.added c.number-2.ensures.added)
 
-pub tell_accepting-told-requires-clause-well_formed : goal.tell_accepting-told-requires-clause-well_formed
-tell_accepting-told-requires-clause-well_formed g c = c.self.invariant.0.well_formed
-
 pub tell_accepting-told-requires-clause-states : goal.tell_accepting-told-requires-clause-states
 tell_accepting-told-requires-clause-states g c =
     let t : Table = record { cea = c.self.inside.cea; states = c.self.inside.states.keys; event_classes = c.self.inside.event_classes.keys; transitions = c.self.inside.transitions.entries } in
     let s = c.args.key.state in
     let b = event_class_at c.args.self.now.event_classes c.args.key.event_class in
     let are = subst (λ (o : Table). AreBoth o s b c.args.both) (sym c.self.view_is) c.requires.both in
-    (sound_two t s b c.args.both c.number.new.states.keys c.number-2.new.states.keys are c.number.ensures.added c.number-2.ensures.added c.self.invariant.0).states
+    record { well_formed = c.self.invariant.0.well_formed; sets = (sound_two t s b c.args.both c.number.new.states.keys c.number-2.new.states.keys are c.number.ensures.added c.number-2.ensures.added c.self.invariant.0).states }
 
 pub tell_accepting-told-requires-clause-told : goal.tell_accepting-told-requires-clause-told
 tell_accepting-told-requires-clause-told g c =

@@ -17,7 +17,7 @@ prepare-requires-clause-can g c =
     let at = subst (λ (h : OpenMatches). slice_get h.keys c.args.number ≡ Some b.key) (sym c.self.view_is) b.numbered in
     let within = slice_get_within c.self.inside.keys c.args.number b.key at in
     let inside : c.args.number < length c.self.inside.lists.items = (let l = c.self.invariant.0 in omega arith) in
-    subst (CanTake c.args.stamp) (sym c.self.view_is) c.requires.can c.args.number c.index.result.now.active.entries (row_at _ c.self.inside.lists.items c.args.number c.index.result.now inside c.index.ensures)
+    subst (CanTake c.args.stamp) (sym c.self.view_is) c.requires.event.can c.args.number c.index.result.now.active.entries (row_at _ c.self.inside.lists.items c.args.number c.index.result.now inside c.index.ensures)
 
 pub cut_to-requires : goal.cut_to-requires
 cut_to-requires g c =
@@ -114,7 +114,7 @@ invariant_of-self g c =
     let within = slice_get_within c.self.inside.keys c.args.number b.key at in
     let inside : c.args.number < length c.self.inside.lists.items = (let l = c.self.invariant.0 in omega arith) in
     let row = row_at (λ (l : Lists). l.active.entries) c.self.inside.lists.items c.args.number c.index.result.now inside c.index.ensures in
-    let can = subst (CanTake c.args.stamp) (sym c.self.view_is) c.requires.can c.args.number c.index.result.now.active.entries row in
+    let can = subst (CanTake c.args.stamp) (sym c.self.view_is) c.requires.event.can c.args.number c.index.result.now.active.entries row in
     let dormant_states = still_later c.self.inside.lazy_dfa c.prepare.new.lazy_dfa _ c.args.bits.now c.self.inside.dormant_states.items c.prepare.ensures.lazy_dfa c.self.invariant.3 in (
       c.self.invariant.0,
       rest_later c.self.inside.lazy_dfa c.prepare.new.lazy_dfa c.self.inside.no_op_sets.items _ c.args.bits.now c.self.inside.lists.items c.prepare.ensures.lazy_dfa c.self.invariant.1,

@@ -45,23 +45,20 @@ now-clock-requires g c =
     let does = does_read c.self.inside.schema.value c.self.inside.query c.self.inside.types.value.items c.args.event.now c.self.invariant.0.types f.of_schema told in
     record { there = c.self.invariant.0.clocks c.args.event.now c.args.position f.of_schema does }
 
-pub advance_own-requires-clause-bits : goal.advance_own-requires-clause-bits
-advance_own-requires-clause-bits g c = (own_leaves c.self.inside.schema.value c.self.inside.query c.self.inside.types.value.items c.self.inside.keys.value.items c.self.inside.clock.source c.args.event.now c.args.position c.self.inside.step c.self.inside.ready c.self.inside.sizes c.self.inside.matches c.self.inside.here c.self.inside.upto c.args.self.now c.args.reads c.args.leaves.now c.self.inside.no_leaves c.leaves_for-bits.result.now c.self.view_is c.self.invariant.0 c.requires.read c.requires.unread c.leaves_for-bits.ensures.told c.leaves_for-bits.ensures.none).room
-
-pub advance_own-requires-clause-in_step : goal.advance_own-requires-clause-in_step
-advance_own-requires-clause-in_step g c =
+pub advance_own-requires-clause-event : goal.advance_own-requires-clause-event
+advance_own-requires-clause-event g c =
     let f = facts c.self.inside.schema.value c.self.inside.query c.args.event.now c.args.position c.self.inside.step c.self.inside.ready c.self.inside.sizes c.self.inside.matches c.self.inside.here c.self.inside.upto c.args.self.now c.self.view_is c.requires.idle c.requires.can in
     let told : slice_index_or c.self.inside.types.value.items c.args.event.now.ty false ≡ true = search rules in
     let does = does_read c.self.inside.schema.value c.self.inside.query c.self.inside.types.value.items c.args.event.now c.self.invariant.0.types f.of_schema told in
     let small : SFits w128 c.now-clock.result = search rules in
     let same : to_z w128 (of_z w128 c.now-clock.result) ≡ c.now-clock.result = to_z-of_z _ _ small in
     let clock = now_is c.self.inside.schema.value c.self.inside.query.window c.self.inside.clock.source c.args.event.now c.args.position c.now-clock.result (to_z w128 (of_z w128 c.now-clock.result)) c.self.invariant.0.clock c.now-clock.ensures.clock same in
-    rw c.in_ok-start_clock.ensures (starts_in_step c.self.inside.schema.value c.self.inside.query f.events c.args.event.now (query_state_of c.self.inside.matches f.clock (here_at c.self.inside.upto c.args.position c.self.inside.here)) (record { pos = c.args.position; clock = to_z w128 (of_z w128 c.now-clock.result) }) (sym f.count) f.in_time does (subst (λ p. HasClock c.self.inside.schema.value c.self.inside.query.window c.args.event.now p (to_z w128 (of_z w128 c.now-clock.result))) (sym f.count) clock) f.stands)
-
-pub advance_own-requires-clause-can : goal.advance_own-requires-clause-can
-advance_own-requires-clause-can g c =
-    let f = facts c.self.inside.schema.value c.self.inside.query c.args.event.now c.args.position c.self.inside.step c.self.inside.ready c.self.inside.sizes c.self.inside.matches c.self.inside.here c.self.inside.upto c.args.self.now c.self.view_is c.requires.idle c.requires.can in
-    rw c.in_ok-start_clock.ensures (can_take c.self.inside.schema.value c.self.inside.query f.events c.self.inside.matches f.clock (here_at c.self.inside.upto c.args.position c.self.inside.here) (record { pos = c.args.position; clock = to_z w128 (of_z w128 c.now-clock.result) }) (sym f.count) f.stands)
+    record {
+      well_formed = f.stands.nodes;
+      in_step = rw c.in_ok-start_clock.ensures (starts_in_step c.self.inside.schema.value c.self.inside.query f.events c.args.event.now (query_state_of c.self.inside.matches f.clock (here_at c.self.inside.upto c.args.position c.self.inside.here)) (record { pos = c.args.position; clock = to_z w128 (of_z w128 c.now-clock.result) }) (sym f.count) f.in_time does (subst (λ p. HasClock c.self.inside.schema.value c.self.inside.query.window c.args.event.now p (to_z w128 (of_z w128 c.now-clock.result))) (sym f.count) clock) f.stands);
+      bits_are = (own_leaves c.self.inside.schema.value c.self.inside.query c.self.inside.types.value.items c.self.inside.keys.value.items c.self.inside.clock.source c.args.event.now c.args.position c.self.inside.step c.self.inside.ready c.self.inside.sizes c.self.inside.matches c.self.inside.here c.self.inside.upto c.args.self.now c.args.reads c.args.leaves.now c.self.inside.no_leaves c.leaves_for-bits.result.now c.self.view_is c.self.invariant.0 c.requires.read c.requires.unread c.leaves_for-bits.ensures.told c.leaves_for-bits.ensures.none).room;
+      can = rw c.in_ok-start_clock.ensures (can_take c.self.inside.schema.value c.self.inside.query f.events c.self.inside.matches f.clock (here_at c.self.inside.upto c.args.position c.self.inside.here) (record { pos = c.args.position; clock = to_z w128 (of_z w128 c.now-clock.result) }) (sym f.count) f.stands);
+    }
 
 pub invariant_of-self-in-Err : goal.invariant_of-self-in-Err
 invariant_of-self-in-Err g c =
@@ -169,9 +166,6 @@ returns-in-Ok-Some-clause-kept g c =
     let m = at_some (λ (r : Ready). (cut c.advance_own.new.sizes c.advance_own.new.matches ≡ c.self.inside.matches) × CanCut c.advance_own.new.sizes c.advance_own.new.matches) c.in-Ok-Some.field-0 c.in-Ok-Some.ready c.in-Ok-Some.field-0-is c.in-Ok-Some.ensures.sizes in
     ap (λ (h : OpenMatches). back (phase_at c.args.position (sleeper c.self.inside.schema.value c.self.inside.query h c.self.inside.here c.self.inside.upto))) m.0
     ∙ ap (λ (p : Phase). back (phase_at c.args.position p)) (idle_fields c.self.inside.schema.value c.self.inside.query c.self.inside.step c.self.inside.ready c.self.inside.sizes c.self.inside.matches c.self.inside.here c.self.inside.upto c.args.self.now c.self.view_is c.requires.idle)
-
-pub advance_own-requires-clause-well_formed : goal.advance_own-requires-clause-well_formed
-advance_own-requires-clause-well_formed g c = (facts c.self.inside.schema.value c.self.inside.query c.args.event.now c.args.position c.self.inside.step c.self.inside.ready c.self.inside.sizes c.self.inside.matches c.self.inside.here c.self.inside.upto c.args.self.now c.self.view_is c.requires.idle c.requires.can).stands.nodes
 
 pub returns-in-Err-clause-kept : goal.returns-in-Err-clause-kept
 returns-in-Err-clause-kept g c =

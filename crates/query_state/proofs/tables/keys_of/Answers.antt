@@ -6,7 +6,7 @@ use Rattle.arena_compact.proofs.Readings.{all_read}
 use Rattle.query_state.specs.KeyPlaces.{AreKeyPlaces}
 use Rattle.query_state.specs.QueryStates.{texts_of}
 use Rattle.query_state.proofs.SameNames.{keyed_alike}
-use Rattle.query_state.proofs.tables.keys_shared.Goals as goal
+use Rattle.query_state.proofs.tables.keys_of.Goals as goal
 
 pub returns-then-same_names : goal.returns-then-same_names
 returns-then-same_names c =

@@ -5,7 +5,7 @@ use Rattle.all_or_none.specs.Phases.{Phase}
 use Rattle.arena_compact.proofs.Readings.{all_read}
 use Rattle.query_state.specs.QueryStates.{AreTypesRead, texts_of}
 use Rattle.query_state.proofs.SameNames.{read_alike}
-use Rattle.query_state.proofs.tables.types_shared.Goals as goal
+use Rattle.query_state.proofs.tables.types_of.Goals as goal
 
 pub returns-then-same_names : goal.returns-then-same_names
 returns-then-same_names c =

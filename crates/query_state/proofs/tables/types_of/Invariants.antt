@@ -1,4 +1,4 @@
-use Rattle.query_state.proofs.tables.types_shared.Given as goal
+use Rattle.query_state.proofs.tables.types_of.Given as goal
 
 abbrev pub invariant-loop-k : goal.invariant-loop-k
 invariant-loop-k l = Unit {0}

@@ -12,8 +12,8 @@ use Rattle.query_engine.specs.Sizes.{steady_bound, AreTended, AreKeptSmall}
 use Rattle.query_engine.specs.Windows.{HasAdded}
 use Rattle.query_engine.proofs.Counting.{each_at_most, each_of_both}
 use Rattle.query_engine.proofs.SmallSizes.{event_puts_by, event_keeps_small, tending_keeps_small}
-use Rattle.stream_answers.specs.declared.schedule.TheConstants.{LEAST_SIZE, EVENTS_A_QUERY}
-use Rattle.stream_answers.specs.Schedules.{Plan, WithNoNumber, pace, saved_by, first_compaction, events_between, IsGoingOn, IsOnTime, KeepsUp}
+use Rattle.stream_answers.specs.declared.schedule.TheConstants.{LEAST_SIZE}
+use Rattle.stream_answers.specs.Schedules.{Plan, WithNoNumber, pace, saved_by, first_compaction, events_before_look, events_between, IsGoingOn, IsOnTime, KeepsUp}
 
 -- WHERE NO NUMBER IS GIVEN
 
@@ -77,13 +77,13 @@ goes_on plan old new events event same added keys t =
     record {
       count = g.count ∙ ap length (sym same.1);
       looked = omega arith;
-      next = subst (λ (qs : List Query). plan.next ≤ plan.looked + EVENTS_A_QUERY * length qs) (sym same.1) g.next;
+      next = subst (λ (qs : List Query). plan.next ≤ plan.looked + events_before_look (length qs)) (sym same.1) g.next;
       small = event_keeps_small old new plan.bases events event LEAST_SIZE plan.looked behind same added keys g.small;
     }
 
 -- the queries were looked at
 pub looked_at : (plan now : Plan) (old new : EngineState) (events : List Event) → SameQueries old new → ((query : ℕ) → found_of new query ≡ found_of old query) → AreTended LEAST_SIZE old new events [] plan.bases now.bases →
-    length now.bases ≡ length plan.bases → now.looked ≡ length events → now.next ≤ now.looked + EVENTS_A_QUERY * length new.queries → now.looked ≤ now.next → IsGoingOn plan old events → IsOnTime now new events
+    length now.bases ≡ length plan.bases → now.looked ≡ length events → now.next ≤ now.looked + events_before_look (length new.queries) → now.looked ≤ now.next → IsGoingOn plan old events → IsOnTime now new events
 looked_at plan now old new events same found tended count looked next until g = record {
   going_on = record {
     count = count ∙ g.count ∙ ap length (sym same.1);
@@ -95,7 +95,7 @@ looked_at plan now old new events same found tended count looked next until g = 
 }
 
 -- all queries were compacted
-pub on_time_at_first : (plan : Plan) (engine : EngineState) (events : List Event) → length plan.bases ≡ length engine.queries → plan.looked ≡ length events → plan.next ≤ plan.looked + EVENTS_A_QUERY * length engine.queries → plan.looked ≤ plan.next →
+pub on_time_at_first : (plan : Plan) (engine : EngineState) (events : List Event) → length plan.bases ≡ length engine.queries → plan.looked ≡ length events → plan.next ≤ plan.looked + events_before_look (length engine.queries) → plan.looked ≤ plan.next →
     AreKeptSmall LEAST_SIZE (length events) engine plan.bases events → IsOnTime plan engine events
 on_time_at_first plan engine events count looked next until small = record {
   going_on = record {

@@ -1,5 +1,5 @@
 -- When the engine of a run is compacted: after every N-th event, or where no N is given as its queries grow.
-use Rattle.std.specs.Prelude.{◌≡◌, ℕ, ◌+◌, ◌*◌, ◌≤◌, Bool, List, length, Option, Some, None, slice_get}
+use Rattle.std.specs.Prelude.{◌≡◌, ℕ, ◌+◌, ◌*◌, ◌≤◌, max, Bool, List, length, Option, Some, None, slice_get}
 use Rattle.stream_schema.specs.declared.Event.{Event}
 use Rattle.cel_terms.specs.declared.Query.{Query}
 use Rattle.query_engine.specs.declared.sizes.Size.{Size}
@@ -7,7 +7,7 @@ use Rattle.query_engine.specs.Bounds.{update_bound}
 use Rattle.query_engine.specs.Counts.{event_bound, compaction_bound}
 use Rattle.query_engine.specs.Engine.{EngineState, found_of}
 use Rattle.query_engine.specs.Sizes.{put_by, size_of, steady_bound, IsInWindowAfter, IsSizedBy, AreKeptSmall}
-use Rattle.stream_answers.specs.declared.schedule.TheConstants.{LEAST_SIZE, EVENTS_A_QUERY}
+use Rattle.stream_answers.specs.declared.schedule.TheConstants.{LEAST_SIZE, EVENTS_A_QUERY, FEWEST_EVENTS}
 use Rattle.stream_answers.specs.Windows.{is_due_after}
 
 -- A compaction of all queries is due after every so many events, of which the first so many do not count; without such a number each query is compacted when it has grown.
@@ -53,9 +53,12 @@ first_compaction (Some n) queries most events = 0
 
 -- THE SIZES
 
--- how many events come between two looks
+-- how many events come between two looks at so many queries
+abbrev pub events_before_look : ℕ → ℕ
+events_before_look queries = max (EVENTS_A_QUERY * queries) FEWEST_EVENTS
+
 abbrev pub events_between : EngineState → ℕ
-events_between engine = EVENTS_A_QUERY * length engine.queries
+events_between engine = events_before_look (length engine.queries)
 
 -- It took events since it was looked at last, no more than come between two looks.
 pub record IsGoingOn (plan : Plan) (engine : EngineState) (events : List Event) : Type 0 where

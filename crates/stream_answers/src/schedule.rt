@@ -8,7 +8,7 @@ ghost use Rattle.query_engine.specs.Counts.{MeetMost, HasFewNodes, compaction_bo
 ghost use Rattle.query_engine.specs.Sizes.{AreKeptSmall, AreSizes, put_by};
 ghost use Rattle.query_engine.specs.Keys.{KeysFollowWindows};
 ghost use Rattle.query_engine.specs.Windows.{IsDense, FollowsWindow};
-ghost use Rattle.stream_answers.specs.Schedules.{due_by, saved, first_compaction, WithNoNumber, IsOnTime, IsGoingOn};
+ghost use Rattle.stream_answers.specs.Schedules.{events_before_look, due_by, saved, first_compaction, WithNoNumber, IsOnTime, IsGoingOn};
 ghost use Rattle.stream_answers.specs.Steps.{compaction_by};
 ghost use Rattle.stream_answers.specs.Windows.{is_due, is_due_after, last_of, FollowsEvents, FollowsWindowsBy};
 
@@ -20,10 +20,13 @@ use std::marker::Model;
 use std::sync::ledger::Ledger;
 
 /// A query that weighs less is not compacted by itself: so many nodes, or keys as eight of them each.
-pub const LEAST_SIZE: u64 = 1_024;
+pub const LEAST_SIZE: u64 = 256;
 
-/// The queries are looked at after so many events for each of them.
-pub const EVENTS_A_QUERY: u64 = 16;
+/// The queries are looked at after so many events for each of them, ..
+pub const EVENTS_A_QUERY: u64 = 2;
+
+/// .. and after so many where the queries are few.
+pub const FEWEST_EVENTS: u64 = 16;
 
 /// When an engine is compacted.
 #[derive(Drop)]
@@ -352,10 +355,10 @@ fn tend<L: Ledger>(
 
 /// After how many events the queries are looked at next.
 fn next_look(looked: u64, queries: u64) -> u64
-    ensures next { result ≤ looked + EVENTS_A_QUERY * queries }
+    ensures next { result ≤ looked + events_before_look queries }
     ensures until { looked ≤ result }
 {
-    looked.saturating_add(EVENTS_A_QUERY.saturating_mul(queries))
+    looked.saturating_add(EVENTS_A_QUERY.saturating_mul(queries).max(FEWEST_EVENTS))
 }
 
 /// Whether the engine is compacted after so many events.

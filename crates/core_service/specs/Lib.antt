@@ -1,0 +1,5 @@
+pub mod Answering
+pub mod Services
+pub mod ManyLines
+pub mod Compacting
+pub mod Serving

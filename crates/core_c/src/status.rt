@@ -1,0 +1,24 @@
+//! The status numbers of calls.
+
+/// What was asked is done. Of `core_feed`: the line's event was taken. Of `core_feed_some`: the last
+/// event that was taken may have an answer. Of `core_next`: an answer was given.
+pub const OK: i32 = 0;
+
+/// There is nothing: the line is empty (`core_feed`), no whole line is left (`core_feed_some`), no answer
+/// is left (`core_next`), there is no query of this number (`core_sizes`).
+pub const NONE: i32 = 1;
+
+/// The answer has more positions than the buffer has room for. It is kept.
+pub const ROOM: i32 = 2;
+
+/// The query text is refused.
+pub const QUERY: i32 = 3;
+
+/// The line is refused, and nothing has changed.
+pub const EVENT: i32 = 4;
+
+/// Memory ran out, and nothing has changed.
+pub const MEMORY: i32 = 5;
+
+/// The engine is closed; or it is open, and was to be opened. Nothing has changed.
+pub const MISUSE: i32 = 6;

@@ -99,6 +99,8 @@ pub extern "C" fn core_open(
 pub extern "C" fn core_close(alloc: Global, engine: &mut CoreEngine) -> i32
     ensures closed { engine.old.handle.full ≡ false → IsMisuse engine.old engine.new result }
     ensures open { engine.old.handle.full ≡ true → (result ≡ OK) × (engine.new.handle.full ≡ false) }
+    ensures low { engine.new.seed_low ≡ engine.old.seed_low }
+    ensures high { engine.new.seed_high ≡ engine.old.seed_high }
 {
     match engine.handle.service(alloc) {
         Some(_service) => OK,

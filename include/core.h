@@ -40,8 +40,8 @@ enum core_status {
     CORE_NONE = 1,   /* There is nothing: an empty line, no whole line, no answer, no such query. */
     CORE_ROOM = 2,   /* The answer has more positions than there is room for. It is kept. */
     CORE_QUERY = 3,  /* The query text is refused. */
-    CORE_EVENT = 4,  /* The line is refused, and nothing has changed. */
-    CORE_MEMORY = 5, /* Memory ran out, and nothing has changed: the call may be made again. */
+    CORE_EVENT = 4,  /* A line is refused, which has changed nothing. */
+    CORE_MEMORY = 5, /* Memory ran out, which has changed nothing: the call may be made again. */
     CORE_MISUSE = 6  /* The engine is closed; or it is open, and was to be opened. Nothing has changed. */
 };
 
@@ -113,7 +113,8 @@ int32_t core_feed(core_engine *engine, const uint8_t *line, size_t len,
 
 /*
  * Feeds whole lines of the bytes, up to and with the first event that may have an answer, and tells in
- * `used` how many bytes they are. What was not used is to be given again, with more behind it.
+ * `used` how many bytes they are, whatever the status. What was not used is to be given again, with more
+ * behind it.
  * CORE_OK: the last event may have an answer. CORE_NONE: no whole line is left. CORE_EVENT: what was not
  * used begins with a line that is refused. CORE_MEMORY. CORE_MISUSE, and `used` is 0.
  */

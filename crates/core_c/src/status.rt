@@ -14,10 +14,10 @@ pub const ROOM: i32 = 2;
 /// The query text is refused.
 pub const QUERY: i32 = 3;
 
-/// The line is refused, and nothing has changed.
+/// A line is refused, which has changed nothing.
 pub const EVENT: i32 = 4;
 
-/// Memory ran out, and nothing has changed.
+/// Memory ran out, which has changed nothing.
 pub const MEMORY: i32 = 5;
 
 /// The engine is closed; or it is open, and was to be opened. Nothing has changed.

@@ -15,3 +15,9 @@ mod LinesFed
 mod Kept
 -- lines that were taken together
 mod Quiet
+-- what the held cursor of a number has left
+mod Among
+-- held cursors as one comes, changes or goes
+mod Changing
+-- calls on held cursors
+mod HeldServices

@@ -11,8 +11,11 @@
 #![tactic(auto)]
 
 mod answering;
+mod compacting;
+mod held;
 pub mod laws;
 mod lines;
+mod marks;
 mod service;
 mod shown;
 #[cfg(test)]
@@ -20,6 +23,7 @@ mod tests;
 
 use cer_base::Pos;
 use event_reader::EventFault;
+pub use marks::MOST_HELD;
 pub use service::Service;
 
 /// What a line that was taken gives.
@@ -50,6 +54,28 @@ pub enum SomeStop {
     /// The next line is refused.
     Refused(Refused),
     /// Memory ran out.
+    Memory,
+}
+
+/// Why no cursor is held. The first of these that holds is the reason.
+#[derive(Drop, Debug, Clone, Copy, PartialEq, Eq)]
+pub enum HoldFault {
+    /// There is no query of this number, which is from 1.
+    NoQuery,
+    /// No event was taken.
+    NoEventYet,
+    /// As many cursors are held as may be, `MOST_HELD`.
+    TooMany,
+    /// Memory ran out, or 2^62 cursors were opened.
+    Memory,
+}
+
+/// Why a held cursor gives no answer.
+#[derive(Drop, Debug, Clone, Copy, PartialEq, Eq)]
+pub enum HeldFault {
+    /// No cursor of this number is held.
+    NotHeld,
+    /// Memory ran out: the cursor has the same answers left.
     Memory,
 }
 

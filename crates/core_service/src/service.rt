@@ -1,30 +1,38 @@
 //! A service: an engine, the lines that it has taken, and the answers at the last position.
 
-ghost use Rattle.std.specs.Prelude.{◌≡◌, ◌+◌, ◌^◌, ◌<◌, ◌≤◌, false, All, Err, IfOk, OnOk, OnErr, IfSome, IfNone};
+ghost use Rattle.std.specs.Prelude.{◌≡◌, ◌+◌, ◌^◌, ◌<◌, ◌≤◌, false, List, length, All, Err, IfOk, OnOk, OnErr, IfSome, IfNone};
 ghost use Rattle.cer_base.specs.Answers.{OnFault};
 ghost use Rattle.cer_base.specs.declared.OrMemory.TheVariants as or;
 ghost use Rattle.cel_terms.specs.Checked.{IsChecked};
 ghost use Rattle.ceql_parser.specs.QueryTexts.{IsAnswerOfText};
 ghost use Rattle.event_reader.specs.Lines.{has_line_feed};
-ghost use Rattle.query_engine.specs.Engine.{count_of, update_bounds, IsNumber};
+ghost use Rattle.query_engine.specs.Bounds.{update_bound};
+ghost use Rattle.query_engine.specs.Engine.{StandsFor, KeepsCursors, SameQueries, IsNumber, count_of, found_of, update_bounds};
+ghost use Rattle.event_run.specs.Taking.{AfterEvent};
+ghost use Rattle.stream_schema.specs.declared.Event.{Event};
+ghost use Rattle.stream_schema.specs.Events.{IsOfSchema};
+ghost use Rattle.core_service.specs.declared.marks.TheConstants.{MOST_HELD};
 ghost use Rattle.core_service.specs.ManyLines.{IsNext, HasFedSome, some_stop};
 ghost use Rattle.core_service.specs.Compacting.{IsCompacted, AreSizesOf};
+ghost use Rattle.core_service.specs.HeldCalls.{CanBeHeld, IsHeld, IsPeeked, IsPulled, IsAdvanced, IsLetGo, OpensHeld};
 ghost use Rattle.core_service.specs.Services.{IsNewOf, IsOpened, IsGiven, IsFed, IsLooked, IsAnswered, GivesDrawn};
 
 use crate::answering::{PositionAnswers, may_answer};
+use crate::held::HeldCursors;
 use crate::lines::{has_line_feed, line_len};
-use crate::{AnswerNumbers, Fed, FedSome, LineRefusal, Refused, Sizes, SomeStop};
+use crate::marks::MOST_HELD;
+use crate::{AnswerNumbers, Fed, FedSome, HeldFault, HoldFault, LineRefusal, Refused, Sizes, SomeStop};
 use ceql_parser::{Accepted, QueryError, read_queries};
 use cer_base::limits::LONGEST_LINE;
 use cer_base::seed::Seed;
 use cer_base::steps::Steps;
 use cer_base::{Memory, OrMemory, Pos};
 use event_reader::{EventBuffer, EventFault};
-use event_run::give_event;
-use query_engine::Engine;
+use query_engine::{Engine, SeeFault};
 use std::alloc::Global;
 use std::marker::Model;
 use std::sync::ledger::Ledger;
+use stream_schema::Event;
 
 /// The most lines that a service takes: 2 to the 62.
 pub const MOST_LINES: u64 = 4_611_686_018_427_387_904;
@@ -39,13 +47,15 @@ pub struct Service {
     lines: u64,
     /// What is left to be given at the last position.
     answers: PositionAnswers,
+    /// The cursors that the caller holds.
+    held: HeldCursors,
 }
 
 impl Model for Service {
-    ghost use Rattle.std.specs.Prelude.{◌≤◌};
+    ghost use Rattle.std.specs.Prelude.{◌≤◌, All};
     ghost use Rattle.std.specs.Coded.{codes};
     ghost use Rattle.cel_terms.specs.contracts.Formula as formula;
-    ghost use Rattle.query_engine.specs.Engine.{count_of};
+    ghost use Rattle.query_engine.specs.Engine.{Fits, count_of};
     ghost use Rattle.core_service.specs.Answering.{CanAnswer};
     ghost use Rattle.core_service.specs.ManyLines.{IsNext, HasFedSome, some_stop};
     ghost use Rattle.core_service.specs.Compacting.{IsCompacted, AreSizesOf};
@@ -55,10 +65,15 @@ impl Model for Service {
 
     ghost coded = { Prim.hlevel (codes, formula.the_row.coded) };
 
-    ghost view = { λ s. record { engine = s.engine; lines = s.lines; answers = s.answers } };
+    ghost view = { λ s. record {
+      engine = s.engine;
+      lines = s.lines;
+      answers = s.answers;
+      held = s.held;
+    } };
 
     ghost invariant = { λ s. CanAnswer s.engine s.answers × (count_of s.engine ≤ s.lines)
-        × (s.lines ≤ 4611686018427387904) };
+        × (s.lines ≤ 4611686018427387904) × All (Fits s.engine) s.held.cursors };
 }
 
 impl Service {
@@ -92,6 +107,7 @@ impl Service {
                 row: EventBuffer::new(alloc),
                 lines: 0,
                 answers: PositionAnswers::after(alloc, count),
+                held: HeldCursors::new(alloc),
             }),
             Err(_) => Err(OrMemory::Memory),
         }
@@ -247,13 +263,141 @@ impl Service {
         }
     }
 
-    /// Gives up what no window reaches any more, and no answer: the same are left. After `Memory`
-    /// nothing has changed.
+    /// Gives up what no window reaches any more, and no answer: the same are left, at the last position and
+    /// of each held cursor. After `Memory` nothing has changed.
     pub fn compact<L: Ledger>(&mut self, steps: &mut Steps<L>) -> Result<(), Memory>
         ensures compacted { OnOk result (IsCompacted self.old self.new) }
         ensures unchanged { OnErr result (self.new ≡ self.old) }
     {
-        self.answers.compact(&mut self.engine, steps)
+        self.held.compact(&mut self.engine, &mut self.answers, steps)
+    }
+
+    /// Holds a cursor over all answers of the query with this number, from 1, that end at the last event,
+    /// in the order in which they are found, whatever ANY says, and answers the cursor's own number, which
+    /// is from 1 and is given once. What the cursor has left stays while lines are taken, while the service
+    /// is compacted and whatever is asked of it, until the cursor has given it or is dropped.
+    ///
+    /// After a fault nothing has changed. The first of these that holds is told:
+    ///
+    /// - `NoQuery`: there is no query of this number.
+    /// - `NoEventYet`: no event was taken.
+    /// - `TooMany`: 64 cursors are held.
+    /// - Memory ran out, or 2^62 cursors were opened.
+    pub fn hold<L: Ledger>(&mut self, query: u64, steps: &mut Steps<L>) -> Result<u64, HoldFault>
+        ensures held { IsHeld query self.old self.new result }
+        ensures steps { steps.new ≤ steps.old + update_bound (found_of self.old.engine query) }
+    {
+        if query == 0 || query > self.engine.queries() {
+            return Err(HoldFault::NoQuery);
+        }
+        if self.engine.events() == 0 {
+            return Err(HoldFault::NoEventYet);
+        }
+        if self.held.len() >= MOST_HELD {
+            return Err(HoldFault::TooMany);
+        }
+        match self.open_held(query, steps) {
+            Ok(number) => Ok(number),
+            Err(_) => Err(HoldFault::Memory),
+        }
+    }
+
+    /// Opens a cursor on the answers of the query, and holds it. After `Memory` nothing has changed.
+    fn open_held<L: Ledger>(&mut self, query: u64, steps: &mut Steps<L>) -> Result<u64, Memory>
+        requires can { CanBeHeld query self.old }
+        requires few { length self.old.held.marks < MOST_HELD }
+        ensures opened { IfOk result (λ number. OpensHeld query number self.old self.new) }
+        ensures unchanged { OnErr result (self.new ≡ self.old) }
+        ensures steps { steps.new ≤ steps.old + update_bound (found_of self.old.engine query) }
+    {
+        let end = self.engine.events() - 1;
+        let cursor = self.engine.cursor(query, steps)?;
+        let number = self.held.add(cursor, end)?;
+        Ok(number)
+    }
+
+    /// The next answer of the held cursor with this number, and `positions` has its positions: it stays
+    /// the next one until `advance_held` or `pull`. None where the cursor has no more. What is left at the
+    /// last position stays left.
+    ///
+    /// - `NotHeld`: no cursor of this number is held, and nothing has changed.
+    /// - Memory ran out: the cursor has the same left.
+    pub fn peek_held<L: Ledger>(
+        &mut self,
+        cursor: u64,
+        steps: &mut Steps<L>,
+    ) -> Result<Option<AnswerNumbers>, HeldFault>
+        ensures { IsPeeked cursor self.old self.new result }
+    {
+        match self.held.place(cursor) {
+            Some(place) => match self.held.draw(&self.engine, place, steps) {
+                Some(numbers) => match self.answers.show_other(self.held.positions(place)) {
+                    Ok(()) => Ok(Some(numbers)),
+                    Err(_) => Err(HeldFault::Memory),
+                },
+                None => Ok(None),
+            },
+            None => Err(HeldFault::NotHeld),
+        }
+    }
+
+    /// Gives the answer that `peek_held` told of the held cursor with this number, if it told one: it is
+    /// not left any more. Answers whether a cursor of this number is held; if none is, nothing has changed.
+    pub fn advance_held(&mut self, cursor: u64) -> bool
+        ensures advanced { IsAdvanced cursor self.old self.new result }
+        ensures positions { self.new.answers.positions ≡ self.old.answers.positions }
+    {
+        match self.held.place(cursor) {
+            Some(place) => {
+                self.held.give(place);
+                true
+            }
+            None => false,
+        }
+    }
+
+    /// Gives the next answer of the held cursor with this number, and `positions` has its positions. None
+    /// where the cursor has no more. What is left at the last position stays left.
+    ///
+    /// - `NotHeld`: no cursor of this number is held, and nothing has changed.
+    /// - Memory ran out: the cursor has the same left.
+    pub fn pull<L: Ledger>(
+        &mut self,
+        cursor: u64,
+        steps: &mut Steps<L>,
+    ) -> Result<Option<AnswerNumbers>, HeldFault>
+        ensures { IsPulled cursor self.old self.new result }
+    {
+        match self.peek_held(cursor, steps) {
+            Ok(Some(numbers)) => {
+                self.advance_held(cursor);
+                Ok(Some(numbers))
+            }
+            Ok(None) => Ok(None),
+            Err(fault) => Err(fault),
+        }
+    }
+
+    /// Lets the held cursor with this number go, with what it has left. Answers whether one was held; if
+    /// none was, nothing has changed.
+    pub fn drop_held(&mut self, cursor: u64) -> bool
+        ensures { IsLetGo cursor self.old self.new result }
+    {
+        match self.held.place(cursor) {
+            Some(place) => {
+                self.held.remove(place);
+                true
+            }
+            None => false,
+        }
+    }
+
+    /// How many cursors are held: 64 at most.
+    pub fn held(&self) -> usize
+        ensures count { result ≡ length self.now.held.marks }
+        ensures most { result ≤ MOST_HELD }
+    {
+        self.held.len()
     }
 
     /// What is kept of the query of this number, from 1; none where there is no such query.
@@ -315,11 +459,38 @@ fn give_line<L: Ledger>(
     ensures steps { OnOk result (steps.new ≤ steps.old + update_bounds engine.new) }
 {
     match row.read(alloc, engine.schema(), line) {
-        Ok(true) => match give_event(number, row.event(), engine, steps) {
+        Ok(true) => match see_event(number, row.event(), engine, steps) {
             Ok(()) => Ok(Fed::Event),
             Err(stop) => Err(stop),
         },
         Ok(false) => Ok(Fed::Nothing),
         Err(stop) => Err(stop),
+    }
+}
+
+/// Gives the engine the event of the line with this number. Cursors have the same left. After an error
+/// nothing has changed.
+fn see_event<L: Ledger>(
+    line: u64,
+    event: &Event,
+    engine: &mut Engine,
+    steps: &mut Steps<L>,
+) -> Result<(), OrMemory<EventFault>>
+    requires of_schema { IsOfSchema engine.old.schema event.now }
+    requires room { count_of engine.old + 1 < 2 ^ 64 }
+    ensures took { (events : List Event) → StandsFor engine.old events
+        → AfterEvent engine.old.schema engine.old.queries line engine.new event.now events result }
+    ensures cursors { OnOk result (KeepsCursors engine.old engine.new) }
+    ensures counted { OnOk result (count_of engine.new ≡ count_of engine.old + 1) }
+    ensures unchanged { OnErr result (engine.new ≡ engine.old) }
+    ensures same { SameQueries engine.old engine.new }
+    ensures steps { OnOk result (steps.new ≤ steps.old + update_bounds engine.new) }
+{
+    match engine.see(event, steps) {
+        Ok(_) => Ok(()),
+        Err(SeeFault::TimeBack { query, before, now }) => {
+            Err(OrMemory::Fault(EventFault::TimeBack { query, before, now }))
+        }
+        Err(SeeFault::Memory) => Err(OrMemory::Memory),
     }
 }

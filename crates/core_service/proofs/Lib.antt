@@ -21,3 +21,5 @@ mod Among
 mod Changing
 -- calls on held cursors
 mod HeldServices
+-- what a held cursor gives over many calls
+mod HeldGiven

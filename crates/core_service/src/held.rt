@@ -58,8 +58,7 @@ fn draw_from<L: Ledger>(
     ensures mark { mark.new ≡ record mark.old { drawn = mark.new.drawn } }
     ensures left { rows_left (cursor_rows engine.now mark.new cursor.new)
         ≡ rows_left (cursor_rows engine.now mark.old cursor.old) }
-    ensures shown {
-        AreNumbersOf (cursor_rows engine.now mark.new cursor.new) cursor.new.path result }
+    ensures shown { AreNumbersOf (cursor_rows engine.now mark.new cursor.new) cursor.new.path result }
 {
     if mark.drawn.is_none() {
         match engine.pull(cursor, steps) {

@@ -21,7 +21,9 @@ use crate::answering::{PositionAnswers, may_answer};
 use crate::held::HeldCursors;
 use crate::lines::{has_line_feed, line_len};
 use crate::marks::MOST_HELD;
-use crate::{AnswerNumbers, Fed, FedSome, HeldFault, HoldFault, LineRefusal, Refused, Sizes, SomeStop};
+use crate::{
+    AnswerNumbers, Fed, FedSome, HeldFault, HoldFault, LineRefusal, Refused, Sizes, SomeStop,
+};
 use ceql_parser::{Accepted, QueryError, read_queries};
 use cer_base::limits::LONGEST_LINE;
 use cer_base::seed::Seed;
@@ -269,7 +271,8 @@ impl Service {
         ensures compacted { OnOk result (IsCompacted self.old self.new) }
         ensures unchanged { OnErr result (self.new ≡ self.old) }
     {
-        self.held.compact(&mut self.engine, &mut self.answers, steps)
+        self.held
+            .compact(&mut self.engine, &mut self.answers, steps)
     }
 
     /// Holds a cursor over all answers of the query with this number, from 1, that end at the last event,

@@ -1,16 +1,16 @@
 -- What the held cursor of a number has left, as cursors come, change and go.
-use Rattle.std.proofs.Common.{◌≡◌, ℕ, zero, suc, ◌+◌, ◌-◌, ◌==◌, ◌<◌, ◌≤◌, cond, not, nat_lt, Bool, true, false, List, [], ◌∷◌, ◌++◌, length, map, reverse, position, remove, get_or, slice_get, slice_set, All, Option, Some, None, refl, sym, ◌∙◌, ap, ap₂, subst, arith}
+use Rattle.std.proofs.Common.{◌≡◌, ℕ, zero, suc, ◌+◌, ◌==◌, ◌<◌, ◌≤◌, cond, Bool, true, false, List, [], ◌∷◌, ◌++◌, length, map, reverse, position, remove, get_or, slice_get, slice_set, All, Option, Some, None, refl, sym, ◌∙◌, ap, ap₂, subst, arith}
 use Rattle.std.specs.List.{position_or_len}
 use Rattle.std.proofs.lemmas.Bool.{eqb-true, eq-eqb, false_from_ne_true}
 use Rattle.std.proofs.lemmas.Grind.{common_steps}
 use Rattle.std.proofs.lemmas.List.Sums.{fails_before_first}
 use Rattle.cel_terms.specs.Answers.{Answer}
-use Rattle.answer_text.specs.OutputRows.{Row, row_at}
+use Rattle.answer_text.specs.OutputRows.{row_at}
 use Rattle.query_engine.specs.Engine.{EngineState, Open, Fits, KeepsCursors, IsKept, rest}
 use Rattle.query_engine.specs.Holding.{answer_of}
 use Rattle.core_service.specs.declared.marks.HeldMark.{HeldMark}
-use Rattle.core_service.specs.Answering.{AreKept, drawn_answer}
-use Rattle.core_service.specs.Holding.{HeldState, HeldRows, RiseTo, cursor_rows, rows_among}
+use Rattle.core_service.specs.Answering.{AreKept}
+use Rattle.core_service.specs.Holding.{HeldRows, RiseTo, cursor_rows, rows_among}
 
 -- TESTS
 

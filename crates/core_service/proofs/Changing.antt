@@ -1,12 +1,12 @@
 -- Held cursors as one comes, changes or goes.
-use Rattle.std.proofs.Common.{◌≡◌, ℕ, zero, suc, ◌+◌, ◌-◌, ◌==◌, ◌<◌, ◌≤◌, true, List, [], ◌∷◌, ◌++◌, length, position, remove, get_or, slice_get, slice_set, All, Option, Some, None, refl, sym, ◌∙◌, ap, ap₂, subst, arith}
+use Rattle.std.proofs.Common.{◌≡◌, ℕ, zero, suc, ◌+◌, ◌==◌, ◌<◌, true, List, [], ◌∷◌, ◌++◌, length, position, remove, slice_get, slice_set, Option, Some, None, refl, sym, ◌∙◌, ap, subst, arith}
 use Rattle.std.specs.Prelude.{IfSome, IfNone}
 use Rattle.std.proofs.lemmas.Bool.{eqb-true}
 use Rattle.std.proofs.lemmas.List.{length-set, length-append}
 use Rattle.std.proofs.lemmas.List.Edits.{length-remove}
 use Rattle.std.proofs.lemmas.List.Quantifiers.{position-Some}
 use Rattle.std.proofs.lemmas.Option.{get_or_from_slice_get}
-use Rattle.query_engine.specs.Engine.{EngineState, Open, Fits}
+use Rattle.query_engine.specs.Engine.{EngineState, Open}
 use Rattle.core_service.specs.declared.AnswerNumbers.{AnswerNumbers}
 use Rattle.core_service.specs.declared.marks.HeldMark.{HeldMark}
 use Rattle.core_service.specs.declared.marks.TheConstants.{MOST_HELD}

@@ -1,28 +1,25 @@
 -- What a held cursor gives over many calls.
-use Rattle.std.proofs.Common.{◌≡◌, ℕ, ◌+◌, ◌-◌, ◌==◌, ◌<◌, ◌≤◌, inl, inr, Bool, true, false, List, [], ◌∷◌, ◌++◌, length, map, drop, Option, Some, None, slice_get, Result, Ok, Err, refl, sym, ◌∙◌, ap, subst, append_assoc, arith}
+use Rattle.std.proofs.Common.{◌≡◌, ℕ, ◌-◌, inl, inr, Bool, true, false, List, [], ◌∷◌, ◌++◌, drop, Option, Some, None, Result, Ok, Err, sym, ◌∙◌, ap, subst, append_assoc, arith}
 use Rattle.std.proofs.lemmas.Bool.Decides.{eqb_tells}
 use Rattle.std.proofs.lemmas.List.{append-nil}
 use Rattle.cer_base.specs.declared.OrMemory.{OrMemory}
 use Rattle.cer_base.specs.declared.OrMemory.TheVariants.{Fault, Memory}
-use Rattle.cel_terms.specs.declared.Query.{Query}
-use Rattle.answer_text.specs.OutputRows.{Row, row_at}
+use Rattle.answer_text.specs.OutputRows.{Row}
 use Rattle.query_engine.specs.Engine.{EngineState}
 use Rattle.core_service.specs.declared.AnswerNumbers.{AnswerNumbers}
 use Rattle.core_service.specs.declared.Fed.{Fed}
 use Rattle.core_service.specs.declared.Fed.TheVariants as feds
-use Rattle.core_service.specs.declared.FedSome.{FedSome}
 use Rattle.core_service.specs.declared.HeldFault.{HeldFault}
 use Rattle.core_service.specs.declared.HeldFault.TheVariants as fault
 use Rattle.core_service.specs.declared.HoldFault.{HoldFault}
 use Rattle.core_service.specs.declared.Refused.{Refused}
 use Rattle.core_service.specs.declared.SomeStop.{SomeStop}
 use Rattle.core_service.specs.declared.SomeStop.TheVariants as stop
-use Rattle.core_service.specs.Answering.{row_of}
 use Rattle.core_service.specs.Holding.{HeldRows, rows_left, held_rows, SameHeld}
-use Rattle.core_service.specs.Services.{ServiceState, IsFed, IsAnswered, Gives}
+use Rattle.core_service.specs.Services.{ServiceState, IsFed, Gives}
 use Rattle.core_service.specs.ManyLines.{IsQuiet, AreQuiet, HasStopped}
-use Rattle.core_service.specs.HeldCalls.{LeavesAnswers, IsHeld, IsPeeked, IsPulled, IsAdvanced, IsLetGo, IsNotHeld, GoesOn, StaysHeld, OpensHeld}
-use Rattle.core_service.specs.HoldingLaws.{row_pulled, IsCall, pulled, advanced, peeked, pulled_other, advanced_other, dropped_other, held, fed, fed_some, looked, answered, gave_drawn, compacted, unchanged, AreCalls, none, one, AreRowsHeld, HasGiven, HeldCursorsKeepAllRows, HeldCursorsGiveAllRows}
+use Rattle.core_service.specs.HeldCalls.{LeavesAnswers, IsHeld, IsPeeked, IsPulled, IsAdvanced, IsLetGo, GoesOn, StaysHeld}
+use Rattle.core_service.specs.HoldingLaws.{row_pulled, IsCall, pulled, advanced, peeked, pulled_other, advanced_other, dropped_other, held, fed, fed_some, looked, answered, gave_drawn, compacted, unchanged, AreCalls, none, one, HeldCursorsKeepAllRows, HeldCursorsGiveAllRows}
 use Rattle.core_service.proofs.Changing.{item}
 
 -- what the service's held cursor of this number has left

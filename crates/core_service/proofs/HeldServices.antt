@@ -1,18 +1,17 @@
 -- What a call on held cursors makes of a service.
-use Rattle.std.proofs.Common.{◌≡◌, ℕ, ◌+◌, ◌-◌, ◌<◌, ◌≤◌, Bool, true, false, List, [], ◌∷◌, ◌++◌, length, map, reverse, Option, Some, None, slice_get, Result, Ok, Err, refl, sym, ◌∙◌, ap, ap₂, subst, arith}
+use Rattle.std.proofs.Common.{◌≡◌, ℕ, ◌-◌, Bool, true, false, List, [], ◌∷◌, ◌++◌, length, map, reverse, Option, Some, None, slice_get, refl, sym, ◌∙◌, ap, ap₂, subst}
 use Rattle.std.proofs.lemmas.List.{length-reverse}
 use Rattle.stream_schema.specs.declared.Event.{Event}
 use Rattle.cel_terms.specs.declared.Query.{Query}
-use Rattle.cel_terms.specs.Answers.{Answer, AreAnswersAt}
+use Rattle.cel_terms.specs.Answers.{AreAnswersAt}
 use Rattle.answer_text.specs.OutputRows.{Row, row_at}
-use Rattle.query_engine.specs.Engine.{EngineState, Open, StandsFor, count_of, rest}
+use Rattle.query_engine.specs.Engine.{EngineState, Open, StandsFor, rest}
 use Rattle.query_engine.specs.Holding.{answer_of}
 use Rattle.core_service.specs.declared.AnswerNumbers.{AnswerNumbers}
-use Rattle.core_service.specs.declared.marks.HeldMark.{HeldMark}
 use Rattle.core_service.specs.Answering.{AnswersState, row_of}
-use Rattle.core_service.specs.Holding.{HeldState, HeldRows, cursor_rows, rows_left, held_rows, AddsHeld, ChangesHeld, DropsHeld, IsDrawn, AreNumbersOf, HasGivenDrawn}
+use Rattle.core_service.specs.Holding.{HeldState, HeldRows, cursor_rows, held_rows, AddsHeld, DropsHeld, IsDrawn, HasGivenDrawn}
 use Rattle.core_service.specs.Services.{ServiceState}
-use Rattle.core_service.specs.HeldCalls.{LeavesAnswers, CanBeHeld, OpensHeld, StaysHeld, ShowsHeld, IsOver, GivesHeld, AdvancesHeld, LetsGo, IsAdvanced}
+use Rattle.core_service.specs.HeldCalls.{LeavesAnswers, CanBeHeld, OpensHeld, StaysHeld, ShowsHeld, IsOver, GivesHeld, LetsGo, IsAdvanced}
 
 abbrev pub service : EngineState → ℕ → AnswersState → HeldState → ServiceState
 service engine lines answers held = record { engine = engine; lines = lines; answers = answers; held = held }

@@ -1,5 +1,5 @@
 -- What the calls on held cursors promise.
-use Rattle.std.specs.Prelude.{◌≡◌, ℕ, ◌<◌, Bool, true, false, List, [], ◌∷◌, length, Option, Some, None, Result, Ok, Err}
+use Rattle.std.specs.Prelude.{◌≡◌, ℕ, ◌<◌, Bool, true, false, [], ◌∷◌, length, Option, Some, None, Result, Ok, Err}
 use Rattle.query_engine.specs.Engine.{IsNumber, count_of}
 use Rattle.core_service.specs.declared.AnswerNumbers.{AnswerNumbers}
 use Rattle.core_service.specs.declared.HoldFault.{HoldFault}

@@ -1,5 +1,5 @@
 -- What a held cursor gives in all, whatever is asked of the service between.
-use Rattle.std.specs.Prelude.{◌≡◌, ℕ, ◌-◌, Bool, true, List, [], ◌∷◌, ◌++◌, length, map, Option, Some, None, slice_get, Result, Ok, Err}
+use Rattle.std.specs.Prelude.{◌≡◌, ℕ, ◌-◌, Bool, List, [], ◌∷◌, ◌++◌, length, map, Option, Some, None, slice_get, Result, Ok, Err}
 use Rattle.cer_base.specs.declared.Memory.{Memory as NoMemory}
 use Rattle.cer_base.specs.declared.OrMemory.{OrMemory}
 use Rattle.stream_schema.specs.declared.Event.{Event}

@@ -1,4 +1,5 @@
-//! A service: an engine, the lines that it has taken, and the answers at the last position.
+//! A service: an engine, the lines that it has taken, the answers at the last position, and the cursors
+//! that are held.
 
 ghost use Rattle.std.specs.Prelude.{◌≡◌, ◌+◌, ◌^◌, ◌<◌, ◌≤◌, false, List, length, All, Err, IfOk, OnOk, OnErr, IfSome, IfNone};
 ghost use Rattle.cer_base.specs.Answers.{OnFault};
@@ -11,19 +12,14 @@ ghost use Rattle.query_engine.specs.Engine.{StandsFor, KeepsCursors, SameQueries
 ghost use Rattle.event_run.specs.Taking.{AfterEvent};
 ghost use Rattle.stream_schema.specs.declared.Event.{Event};
 ghost use Rattle.stream_schema.specs.Events.{IsOfSchema};
-ghost use Rattle.core_service.specs.declared.marks.TheConstants.{MOST_HELD};
 ghost use Rattle.core_service.specs.ManyLines.{IsNext, HasFedSome, some_stop};
 ghost use Rattle.core_service.specs.Compacting.{IsCompacted, AreSizesOf};
-ghost use Rattle.core_service.specs.HeldCalls.{CanBeHeld, IsHeld, IsPeeked, IsPulled, IsAdvanced, IsLetGo, OpensHeld};
 ghost use Rattle.core_service.specs.Services.{IsNewOf, IsOpened, IsGiven, IsFed, IsLooked, IsAnswered, GivesDrawn};
 
 use crate::answering::{PositionAnswers, may_answer};
 use crate::held::HeldCursors;
 use crate::lines::{has_line_feed, line_len};
-use crate::marks::MOST_HELD;
-use crate::{
-    AnswerNumbers, Fed, FedSome, HeldFault, HoldFault, LineRefusal, Refused, Sizes, SomeStop,
-};
+use crate::{AnswerNumbers, Fed, FedSome, LineRefusal, Refused, Sizes, SomeStop};
 use ceql_parser::{Accepted, QueryError, read_queries};
 use cer_base::limits::LONGEST_LINE;
 use cer_base::seed::Seed;
@@ -35,6 +31,8 @@ use std::alloc::Global;
 use std::marker::Model;
 use std::sync::ledger::Ledger;
 use stream_schema::Event;
+
+mod holding;
 
 /// The most lines that a service takes: 2 to the 62.
 pub const MOST_LINES: u64 = 4_611_686_018_427_387_904;
@@ -273,134 +271,6 @@ impl Service {
     {
         self.held
             .compact(&mut self.engine, &mut self.answers, steps)
-    }
-
-    /// Holds a cursor over all answers of the query with this number, from 1, that end at the last event,
-    /// in the order in which they are found, whatever ANY says, and answers the cursor's own number, which
-    /// is from 1 and is given once. What the cursor has left stays while lines are taken, while the service
-    /// is compacted and whatever is asked of it, until the cursor has given it or is dropped.
-    ///
-    /// After a fault nothing has changed. The first of these that holds is told:
-    ///
-    /// - `NoQuery`: there is no query of this number.
-    /// - `NoEventYet`: no event was taken.
-    /// - `TooMany`: 64 cursors are held.
-    /// - Memory ran out, or 2^62 cursors were opened.
-    pub fn hold<L: Ledger>(&mut self, query: u64, steps: &mut Steps<L>) -> Result<u64, HoldFault>
-        ensures held { IsHeld query self.old self.new result }
-        ensures steps { steps.new ≤ steps.old + update_bound (found_of self.old.engine query) }
-    {
-        if query == 0 || query > self.engine.queries() {
-            return Err(HoldFault::NoQuery);
-        }
-        if self.engine.events() == 0 {
-            return Err(HoldFault::NoEventYet);
-        }
-        if self.held.len() >= MOST_HELD {
-            return Err(HoldFault::TooMany);
-        }
-        match self.open_held(query, steps) {
-            Ok(number) => Ok(number),
-            Err(_) => Err(HoldFault::Memory),
-        }
-    }
-
-    /// Opens a cursor on the answers of the query, and holds it. After `Memory` nothing has changed.
-    fn open_held<L: Ledger>(&mut self, query: u64, steps: &mut Steps<L>) -> Result<u64, Memory>
-        requires can { CanBeHeld query self.old }
-        requires few { length self.old.held.marks < MOST_HELD }
-        ensures opened { IfOk result (λ number. OpensHeld query number self.old self.new) }
-        ensures unchanged { OnErr result (self.new ≡ self.old) }
-        ensures steps { steps.new ≤ steps.old + update_bound (found_of self.old.engine query) }
-    {
-        let end = self.engine.events() - 1;
-        let cursor = self.engine.cursor(query, steps)?;
-        let number = self.held.add(cursor, end)?;
-        Ok(number)
-    }
-
-    /// The next answer of the held cursor with this number, and `positions` has its positions: it stays
-    /// the next one until `advance_held` or `pull`. None where the cursor has no more. What is left at the
-    /// last position stays left.
-    ///
-    /// - `NotHeld`: no cursor of this number is held, and nothing has changed.
-    /// - Memory ran out: the cursor has the same left.
-    pub fn peek_held<L: Ledger>(
-        &mut self,
-        cursor: u64,
-        steps: &mut Steps<L>,
-    ) -> Result<Option<AnswerNumbers>, HeldFault>
-        ensures { IsPeeked cursor self.old self.new result }
-    {
-        match self.held.place(cursor) {
-            Some(place) => match self.held.draw(&self.engine, place, steps) {
-                Some(numbers) => match self.answers.show_other(self.held.positions(place)) {
-                    Ok(()) => Ok(Some(numbers)),
-                    Err(_) => Err(HeldFault::Memory),
-                },
-                None => Ok(None),
-            },
-            None => Err(HeldFault::NotHeld),
-        }
-    }
-
-    /// Gives the answer that `peek_held` told of the held cursor with this number, if it told one: it is
-    /// not left any more. Answers whether a cursor of this number is held; if none is, nothing has changed.
-    pub fn advance_held(&mut self, cursor: u64) -> bool
-        ensures advanced { IsAdvanced cursor self.old self.new result }
-        ensures positions { self.new.answers.positions ≡ self.old.answers.positions }
-    {
-        match self.held.place(cursor) {
-            Some(place) => {
-                self.held.give(place);
-                true
-            }
-            None => false,
-        }
-    }
-
-    /// Gives the next answer of the held cursor with this number, and `positions` has its positions. None
-    /// where the cursor has no more. What is left at the last position stays left.
-    ///
-    /// - `NotHeld`: no cursor of this number is held, and nothing has changed.
-    /// - Memory ran out: the cursor has the same left.
-    pub fn pull<L: Ledger>(
-        &mut self,
-        cursor: u64,
-        steps: &mut Steps<L>,
-    ) -> Result<Option<AnswerNumbers>, HeldFault>
-        ensures { IsPulled cursor self.old self.new result }
-    {
-        match self.peek_held(cursor, steps) {
-            Ok(Some(numbers)) => {
-                self.advance_held(cursor);
-                Ok(Some(numbers))
-            }
-            Ok(None) => Ok(None),
-            Err(fault) => Err(fault),
-        }
-    }
-
-    /// Lets the held cursor with this number go, with what it has left. Answers whether one was held; if
-    /// none was, nothing has changed.
-    pub fn drop_held(&mut self, cursor: u64) -> bool
-        ensures { IsLetGo cursor self.old self.new result }
-    {
-        match self.held.place(cursor) {
-            Some(place) => {
-                self.held.remove(place);
-                true
-            }
-            None => false,
-        }
-    }
-
-    /// How many cursors are held: 64 at most.
-    pub fn held(&self) -> usize
-        ensures count { result ≡ length self.now.held.marks }
-        ensures most { result ≤ MOST_HELD }
-    {
-        self.held.len()
     }
 
     /// What is kept of the query of this number, from 1; none where there is no such query.

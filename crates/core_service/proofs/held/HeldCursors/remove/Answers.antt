@@ -1,9 +1,9 @@
 -- The cursor at the place goes.
-use Rattle.std.proofs.Common.{◌≡◌, ◌<◌, List, length, remove, subst, sym, arith}
+use Rattle.std.proofs.Common.{◌<◌, List, length, remove, subst, sym, arith}
 use Rattle.query_engine.specs.Engine.{Open}
 use Rattle.core_service.specs.declared.marks.HeldMark.{HeldMark}
 use Rattle.core_service.specs.Holding.{HeldState, IsHolding, StandsAt, DropsHeld}
-use Rattle.core_service.proofs.Changing.{state, item, mark_number, holding_fewer, dropped_at}
+use Rattle.core_service.proofs.Changing.{state, item, holding_fewer, dropped_at}
 use Rattle.core_service.proofs.held.HeldCursors.remove.Goals as goal
 
 pub invariant_of-self : goal.invariant_of-self

@@ -2,6 +2,8 @@
 
 ghost use Rattle.std.specs.Prelude.{◌≡◌};
 
+mod holding;
+
 use crate::{AnswerNumbers, Service};
 use cer_base::seed::Seed;
 use cer_base::steps::{Opening, Steps};

@@ -1,9 +1,7 @@
 //! Held cursors, over five events of two queries.
 
-ghost use Rattle.std.specs.Prelude.{◌≡◌};
-
+use crate::tests::{Play, put_all};
 use crate::{AnswerNumbers, HeldFault, HoldFault, MOST_HELD, Service};
-use cer_base::seed::Seed;
 use cer_base::steps::{Opening, Steps};
 use cer_base::{Memory, Pos};
 use std::alloc::Global;
@@ -11,7 +9,7 @@ use std::marker::Brand;
 use std::sync::ledger::Ledger;
 use std::test::*;
 
-const TEXT: &[u8] = b"DECLARE EVENT A(n INT)\nDECLARE EVENT B(n INT)\nDECLARE STREAM S(A, B)\
+pub const TEXT: &[u8] = b"DECLARE EVENT A(n INT)\nDECLARE EVENT B(n INT)\nDECLARE STREAM S(A, B)\
     \nSELECT * FROM S WHERE A ; B WITHIN 2 EVENTS\nSELECT ANY 1 * FROM S WHERE A ; B\n";
 
 /// The lines up to the first answers, and those after them, parted by semicolons.
@@ -183,7 +181,7 @@ fn put_many<L: Ledger>(
 }
 
 /// Plays the lines.
-fn put_lines<L: Ledger>(
+pub fn put_lines<L: Ledger>(
     alloc: Global,
     service: &mut Service,
     numbers: &mut Vec<u64>,
@@ -204,25 +202,10 @@ fn put_lines<L: Ledger>(
     put_many(service, numbers, steps)
 }
 
-/// What a service of the text gives for the lines.
-fn put_all<L: Ledger>(alloc: Global, numbers: &mut Vec<u64>, opening: Opening) -> Result<(), Memory>
-    requires name { opening.name ≡ L.name }
-    requires parts { opening.parts ≡ L.parts }
-{
-    let mut steps: Steps<L> = Steps::start(opening);
-    match Service::open(alloc, Seed::default(), TEXT) {
-        Ok(service) => {
-            let mut service = service;
-            put_lines(alloc, &mut service, numbers, &mut steps)
-        }
-        Err(_) => Err(Memory),
-    }
-}
-
 #[test]
 fn held_cursors_give_their_answers_after_later_events(rt: HostRuntime) -> Result<(), Memory> {
     let mut numbers = Vec::new(rt.alloc());
-    put_all::<Brand>(rt.alloc(), &mut numbers, Opening::new(&rt))?;
+    put_all::<Brand>(rt.alloc(), Play::Held, &mut numbers, Opening::new(&rt))?;
     assert_eq!(rt; numbers.as_slice(), WANTED);
     Ok(())
 }

@@ -62,7 +62,7 @@ held_rows engine held number = rows_among engine held.marks held.cursors number
 abbrev pub SameOthers : EngineState → ℕ → HeldState → HeldState → Type 0
 SameOthers engine number old new = (other : ℕ) → (other ≡ number → ⊥) → held_rows engine new other ≡ held_rows engine old other
 
--- The same cursors are held, of another engine, and each has the same left.
+-- Each cursor is held still, with the same left, of another engine.
 pub record SameHeld (engine later : EngineState) (old new : HeldState) : Type 0 where
   pub last : new.last ≡ old.last
   pub count : length new.marks ≡ length old.marks
@@ -107,7 +107,7 @@ abbrev pub AreNumbersOf : HeldRows → List ℕ → Option AnswerNumbers → Typ
 AreNumbersOf rows path (Some numbers) = (rows.drawn ≡ row_of numbers (reverse path) ∷ []) × (numbers.count ≡ length path)
 AreNumbersOf rows path None = rows_left rows ≡ []
 
--- The next answer of the cursor is drawn, where it has one and none was drawn; the same are left.
+-- The next answer of the cursor is drawn, where it has one and none was drawn; the same are left. Private clauses alone cite it.
 pub record IsDrawn (engine : EngineState) (number place : ℕ) (old new : HeldState) (result : Option AnswerNumbers) : Type 0 where
   pub before : HeldRows
   pub now : HeldRows

@@ -1,12 +1,12 @@
 //! The engine as a library for services: made from a query text, it takes the lines of events one at a
 //! time, and gives the answers one at a time as numbers.
 //!
-//! Promised: `Service::open` gives a service of the text's schema and queries, or exactly the text's
-//! first fault; `feed` takes a line's event, or refuses the line for its reason, and then nothing has
-//! changed; `next` gives the rows that are left at the last position, each once, and says when none is
-//! left; want of memory changes nothing of what is served. So whoever asks after each line until none is
-//! left is given exactly the rows of the queries over the events of these lines (`laws`). What a service is
-//! to its callers stands in `specs/Services`, and the whole in `specs/Serving`.
+//! Promised: `Service::open` gives a service of the text's schema and queries, or exactly its first fault;
+//! `feed` takes a line's event, or refuses the line for its reason, and then nothing has changed; `next`
+//! gives the rows that are left at the last position, each once; a cursor that is held (`hold`) gives those
+//! of its query at the position where it was opened, whatever comes after; want of memory changes nothing of
+//! what is served. What this comes to over many calls stands in `laws`, what a service is to its callers in
+//! `specs/Services` and `specs/Holding`, and the whole in `specs/Serving` and `specs/HoldingLaws`.
 //! It stands on `ceql_parser` for the text, `event_reader` and `event_run` for lines, and `query_engine`.
 #![tactic(auto)]
 

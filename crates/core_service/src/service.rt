@@ -117,7 +117,7 @@ impl Service {
     /// has changed.
     ///
     /// Once an event is taken, what was left to be given before it is dropped, and its own answers are
-    /// left. An empty line gives no event, and leaves what was left.
+    /// left. An empty line gives no event, and leaves what was left. Held cursors have the same left.
     ///
     /// - `LineFeed`: the bytes hold a line feed.
     /// - `LineTooLong`: they are more than 65,536.

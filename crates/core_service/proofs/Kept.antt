@@ -1,23 +1,19 @@
 -- What is left over a compaction that holds the cursor.
-use Rattle.std.proofs.Common.{◌≡◌, ◌∙◌, sym, refl, ap, subst, ℕ, ◌+◌, ◌-◌, ◌<◌, List, [], ◌∷◌, ◌++◌, length, get_or, drop, map, reverse, Option, Some, None, arith}
+use Rattle.std.proofs.Common.{◌≡◌, ◌∙◌, sym, refl, ap, subst, ℕ, ◌+◌, ◌-◌, List, [], ◌∷◌, ◌++◌, length, drop, map, reverse, Option, Some, None, arith}
 use Rattle.stream_schema.specs.Types.{Declared}
 use Rattle.stream_schema.specs.declared.Event.{Event}
 use Rattle.cel_terms.specs.declared.Query.{Query}
 use Rattle.cel_terms.specs.Answers.{Answer}
-use Rattle.query_engine.specs.Engine.{EngineState, Open, IsKept, SameQueries}
+use Rattle.query_engine.specs.Engine.{EngineState, Open, SameQueries}
 use Rattle.query_engine.specs.Holding.{answer_of}
 use Rattle.answer_text.specs.declared.Order.TheVariants.{Walk}
 use Rattle.answer_text.specs.OutputRows.{Row, row_at, AreRowsAt}
 use Rattle.answer_blocks.specs.Wanted.{wanted, to_give}
-use Rattle.core_service.specs.Answering.{AnswersState, drawn_answer, cursor_answers, answers_begun, AreLeft, SameLeft}
+use Rattle.core_service.specs.Answering.{AnswersState, AreKept, drawn_answer, cursor_answers, answers_begun, AreLeft, SameLeft}
 
 -- the rows of the queries from the one after this number on
 abbrev Behind : Declared → ℕ → List Query → List Event → List Row → Type 0
 Behind schema asked queries events later = AreRowsAt Walk schema (asked + 1) (drop asked queries) events (length events - 1) later
-
--- each cursor is kept
-abbrev pub AreKept : EngineState → EngineState → List Open → List Open → Type 0
-AreKept old new before after = (length after ≡ length before) × ((k : ℕ) → (d : Open) → k < length before → IsKept old new (get_or before k d) (get_or after k d))
 
 drawn_kept : (drawn : Option ℕ) (b : Open) (bs : List Open) (a : Open) (later : List Open) → a.path ≡ b.path → drawn_answer drawn (b ∷ bs) ≡ drawn_answer drawn (a ∷ later)
 drawn_kept None b bs a later same = refl
@@ -27,10 +23,10 @@ drawn_kept (Some start) b bs a later same = ap (λ (p : List ℕ). record { star
 begun_kept : (old new : EngineState) (any drawn : Option ℕ) (before after : List Open) → AreKept old new before after →
     drawn_answer drawn before ++ cursor_answers old any before ≡ drawn_answer drawn after ++ cursor_answers new any after
 begun_kept old new any drawn [] [] kept = refl
-begun_kept old new any drawn [] (a ∷ later) kept = let long = kept.0 in absurd (omega arith)
-begun_kept old new any drawn (b ∷ bs) [] kept = let long = kept.0 in absurd (omega arith)
+begun_kept old new any drawn [] (a ∷ later) kept = let long = kept.count in absurd (omega arith)
+begun_kept old new any drawn (b ∷ bs) [] kept = let long = kept.count in absurd (omega arith)
 begun_kept old new any drawn (b ∷ bs) (a ∷ later) kept =
-    let one = kept.1 0 b (omega arith) in
+    let one = kept.each 0 b (omega arith) in
     let front = drawn_kept drawn b bs a later one.path in
     let back : to_give old any b ≡ to_give new any a = ap (λ l. wanted any (map answer_of l)) (sym one.rest) in
     ap (λ (l : List Answer). l ++ to_give old any b) front ∙ ap (λ (l : List Answer). drawn_answer drawn (a ∷ later) ++ l) back
@@ -55,10 +51,9 @@ left_kept old new before after same is kept = record {
     }
 
 -- The cursors were held in a compaction.
-pub left_held : (old new : EngineState) (asked : ℕ) (cursors held after now : List Open) (any drawn : Option ℕ) (positions : List ℕ) (first : AnswersState) →
-    record { asked = asked; cursors = cursors; wanted = any; drawn = drawn; positions = positions } ≡ first → held ≡ cursors → now ≡ after → SameQueries old new → AreKept old new held after →
+pub left_held : (old new : EngineState) (asked : ℕ) (cursors now : List Open) (any drawn : Option ℕ) (positions : List ℕ) (first : AnswersState) →
+    record { asked = asked; cursors = cursors; wanted = any; drawn = drawn; positions = positions } ≡ first → SameQueries old new → AreKept old new cursors now →
     SameLeft old new first (record { asked = asked; cursors = now; wanted = any; drawn = drawn; positions = positions })
-left_held old new asked cursors held after now any drawn positions first is lent put same kept =
+left_held old new asked cursors now any drawn positions first is same kept =
     let last : AnswersState = record { asked = asked; cursors = now; wanted = any; drawn = drawn; positions = positions } in
-    let both : AreKept old new cursors now = subst (λ (l : List Open). AreKept old new l now) lent (subst (λ (l : List Open). AreKept old new held l) (sym put) kept) in
-    subst (λ (a : AnswersState). SameLeft old new a last) is (left_kept old new (record { asked = asked; cursors = cursors; wanted = any; drawn = drawn; positions = positions }) last same refl both)
+    subst (λ (a : AnswersState). SameLeft old new a last) is (left_kept old new (record { asked = asked; cursors = cursors; wanted = any; drawn = drawn; positions = positions }) last same refl kept)

@@ -183,6 +183,6 @@ asked_all engine first now asked count cursors any drawn positions is all can le
     let nothing : answers_begun engine old ≡ [] = subst (λ (a : AnswersState). answers_begun engine a ≡ []) (sym is) begun in
     let within = before.within in
     let out : HaveNoAnswer engine asked count = subst (HaveNoAnswer engine asked) (sym all) (subst (λ (a : AnswersState). HaveNoAnswer engine a.asked (length engine.queries)) (sym is) none) in (
-      record { fit = before.fit; within = omega arith; seen = λ less. absurd (omega arith) },
+      record { fit = before.fit; one = before.one; within = omega arith; seen = λ less. absurd (omega arith) },
       leaves_twice engine first old new (subst (λ (a : AnswersState). Leaves engine first a []) (sym is) leaves) (leaves_none engine old new (omega arith) (omega arith) out nothing nothing),
     )

@@ -15,3 +15,11 @@ mod LinesFed
 mod Kept
 -- lines that were taken together
 mod Quiet
+-- what the held cursor of a number has left
+mod Among
+-- held cursors as one comes, changes or goes
+mod Changing
+-- calls on held cursors
+mod HeldServices
+-- what a held cursor gives over many calls
+mod HeldGiven

@@ -17,10 +17,24 @@ use Rattle.output_laws.proofs.RowsGrow.{rows_grow_at_last}
 use Rattle.core_service.specs.declared.Fed.{Fed}
 use Rattle.core_service.specs.declared.Fed.TheVariants as fed
 use Rattle.core_service.specs.declared.Refused.{Refused}
-use Rattle.core_service.specs.Answering.{AreLeft, NoneIsLeft, row_of}
+use Rattle.core_service.specs.Answering.{AnswersState, AreLeft, NoneIsLeft, row_of}
 use Rattle.core_service.specs.ManyLines.{IsQuiet}
 use Rattle.core_service.specs.Services.{ServiceState, IsOpened, IsFed, Gives}
-use Rattle.core_service.specs.Serving.{IsEmptied, unasked, over, one, compacted, again, Turn, IsTurn, AreTurns, line_taken, lines_taken, rows_given, HasServed, ServicesGiveAllRows, QuietLinesAreTurns}
+use Rattle.core_service.specs.HeldCalls.{LeavesAnswers}
+use Rattle.core_service.specs.Serving.{IsEmptied, unasked, over, one, compacted, beside, after, again, Turn, IsTurn, AreTurns, line_taken, lines_taken, rows_given, HasServed, ServicesGiveAllRows, QuietLinesAreTurns}
+
+-- what is left does not go by the positions that are shown
+as_left : (engine : EngineState) (a : AnswersState) (positions : List ℕ) (events : List Event) (rows : List Row) → AreLeft engine (record a { positions = positions }) events rows → AreLeft engine a events rows
+as_left engine a positions events rows h = record { later = h.later; later_are = h.later_are; are = h.are }
+
+none_as : (engine : EngineState) (a : AnswersState) (positions : List ℕ) → NoneIsLeft engine a → NoneIsLeft engine (record a { positions = positions })
+none_as engine a positions h = record {
+  none = λ events rows stands.
+      let both = h.none events rows stands in (
+        λ left. both.0 (as_left engine a positions events rows left),
+        λ empty. let left = both.1 empty in record { later = left.later; later_are = left.later_are; are = left.are },
+      );
+}
 
 -- The rows that were given until none was left are rows that were left.
 record Emptied (old : ServiceState) (given : List Row) (new : ServiceState) : Type 0 where
@@ -55,11 +69,39 @@ at_rest old new given nothing is none = record {
   none = subst (λ (s : ServiceState). NoneIsLeft s.engine s.answers) (sym is) none;
 }
 
+-- a call on held cursors comes first
+after_beside : (old middle new : ServiceState) (rows : List Row) → LeavesAnswers old middle → Emptied middle rows new → Emptied old rows new
+after_beside old middle new rows call rest =
+    let e = call.engine in
+    let there : (events : List Event) → StandsFor old.engine events → StandsFor middle.engine events = λ events stands. subst (λ (x : EngineState). StandsFor x events) (sym e) stands in
+    record {
+      same = (rest.same.0 ∙ ap (λ (x : EngineState). x.schema) e, rest.same.1 ∙ ap (λ (x : EngineState). x.queries) e);
+      stands = λ events stands. rest.stands events (there events stands);
+      lines = rest.lines ∙ call.lines;
+      left = λ events stands.
+          let later = subst (λ (x : EngineState). AreLeft x middle.answers events rows) e (rest.left events (there events stands)) in
+          as_left old.engine old.answers middle.answers.positions events rows (subst (λ (a : AnswersState). AreLeft old.engine a events rows) call.answers later);
+      none = rest.none;
+    }
+
+-- or last
+before_beside : (old middle new : ServiceState) (rows : List Row) → Emptied old rows middle → LeavesAnswers middle new → Emptied old rows new
+before_beside old middle new rows first call =
+    let e = call.engine in record {
+      same = (ap (λ (x : EngineState). x.schema) e ∙ first.same.0, ap (λ (x : EngineState). x.queries) e ∙ first.same.1);
+      stands = λ events stands. subst (λ (x : EngineState). StandsFor x events) (sym e) (first.stands events stands);
+      lines = call.lines ∙ first.lines;
+      left = first.left;
+      none = subst (λ (x : EngineState). NoneIsLeft x new.answers) (sym e) (subst (NoneIsLeft middle.engine) (sym call.answers) (none_as middle.engine middle.answers new.answers.positions first.none));
+    }
+
 emptied : {old new : ServiceState} {given : List Row} → IsEmptied old given new → Emptied old given new
 emptied {old} {new} {given} (unasked nothing is none) = at_rest old new given nothing is none
 emptied {old} {new} {given} (over nothing answered) = after_call old new new [] [] given answered.0 nothing (at_rest new new [] refl refl answered.1)
 emptied {old} {new} {given} (one {new = middle} numbers later is answered rest) =
     after_call old middle new (row_of numbers middle.answers.positions ∷ []) later given answered.0 is (emptied rest)
+emptied {old} {new} {given} (beside {new = middle} call rest) = after_beside old middle new given call (emptied rest)
+emptied {old} {new} {given} (after {new = middle} first call) = before_beside old middle new given (emptied first) call
 emptied {old} {new} {given} (again {new = middle} refused answered rest) = after_call old middle new [] given given answered refl (emptied rest)
 emptied {old} {new} {given} (compacted {new = middle} made rest) =
     let r = emptied rest in record {

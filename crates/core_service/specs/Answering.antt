@@ -1,5 +1,5 @@
 -- The answers at a service's last position: which of them are still to be given, and which queries were asked for them.
-use Rattle.std.specs.Prelude.{◌≡◌, ℕ, ◌+◌, ◌-◌, ◌<◌, ◌≤◌, ◌↔◌, List, [], ◌∷◌, ◌++◌, length, map, drop, reverse, All, Option, Some, None, slice_get, Result, Ok, Err}
+use Rattle.std.specs.Prelude.{◌≡◌, ℕ, ◌+◌, ◌-◌, ◌<◌, ◌≤◌, ◌↔◌, List, [], ◌∷◌, ◌++◌, length, map, get_or, drop, reverse, All, Option, Some, None, slice_get, Result, Ok, Err}
 use Rattle.cer_base.specs.declared.Memory.{Memory}
 use Rattle.stream_schema.specs.declared.Event.{Event}
 use Rattle.cel_terms.specs.declared.Query.{Query}
@@ -7,7 +7,7 @@ use Rattle.cel_terms.specs.Answers.{Answer, AreAnswersAt}
 use Rattle.answer_text.specs.declared.Order.TheVariants.{Walk}
 use Rattle.answer_text.specs.OutputRows.{Row, row_at, AreRowsAt}
 use Rattle.answer_blocks.specs.Wanted.{to_give}
-use Rattle.query_engine.specs.Engine.{EngineState, Open, StandsFor, Fits, count_of}
+use Rattle.query_engine.specs.Engine.{EngineState, Open, StandsFor, Fits, IsKept, count_of}
 use Rattle.core_service.specs.declared.AnswerNumbers.{AnswerNumbers}
 
 -- What contracts see of the answers at the last position: the number of the query that was asked last, 0 before the first; its cursor, one or none; how many of its answers are still wanted, where it says so; the start of the answer that was drawn from it and not given; and the positions of the answer that was looked at last, rising.
@@ -63,6 +63,11 @@ pub record NoneIsLeft (engine : EngineState) (answers : AnswersState) : Type 0 w
 pub record SameLeft (engine later : EngineState) (old new : AnswersState) : Type 0 where
   pub left : (events : List Event) (rows : List Row) → AreLeft later new events rows ↔ AreLeft engine old events rows
 
+-- Each cursor is kept over a compaction.
+pub record AreKept (old new : EngineState) (before after : List Open) : Type 0 where
+  pub count : length after ≡ length before
+  pub each : (k : ℕ) (d : Open) → k < length before → IsKept old new (get_or before k d) (get_or after k d)
+
 -- the row of an answer, whose positions are these
 abbrev pub row_of : AnswerNumbers → List ℕ → Row
 row_of numbers positions = record { number = numbers.query; end = numbers.end; answer = record { start = numbers.start; marks = positions } }
@@ -90,8 +95,9 @@ pub record IsNextQuery (engine : EngineState) (asked number : ℕ) : Type 0 wher
   pub within : number ≤ length engine.queries
   pub between : HaveNoAnswer engine asked (number - 1)
 
--- The cursors can be pulled from the engine, and where a query is not asked yet some event was taken.
+-- The cursors, one at most, can be pulled from the engine, and where a query is not asked yet some event was taken.
 pub record CanAnswer (engine : EngineState) (answers : AnswersState) : Type 0 where
   pub fit : All (Fits engine) answers.cursors
+  pub one : length answers.cursors ≤ 1
   pub within : answers.asked ≤ length engine.queries
   pub seen : answers.asked < length engine.queries → 0 < count_of engine

@@ -14,7 +14,7 @@ use Rattle.event_reader.specs.declared.EventFault.TheVariants.{LineTooLong}
 use Rattle.event_reader.specs.Lines.{has_line_feed}
 use Rattle.event_reader.specs.Events.{event_of_line}
 use Rattle.query_engine.specs.Clocks.{NoneFallsBack}
-use Rattle.query_engine.specs.Engine.{EngineState, StandsFor, SameQueries, count_of}
+use Rattle.query_engine.specs.Engine.{EngineState, StandsFor, SameQueries, KeepsCursors, count_of}
 use Rattle.event_run.specs.Taking.{StopsHere}
 use Rattle.answer_text.specs.declared.Order.TheVariants.{Walk}
 use Rattle.answer_text.specs.OutputRows.{Row, AreRowsAt}
@@ -25,26 +25,30 @@ use Rattle.core_service.specs.declared.LineRefusal.{LineRefusal}
 use Rattle.core_service.specs.declared.LineRefusal.TheVariants as refusal
 use Rattle.core_service.specs.declared.AnswerNumbers.{AnswerNumbers}
 use Rattle.core_service.specs.Answering.{AnswersState, AreLeft, Leaves, LeavesDrawn, NoneIsLeft, IsShown, row_of}
+use Rattle.core_service.specs.Holding.{HeldState, none_held, SameHeld}
 
--- A service: its engine, how many lines it has taken, and what is left to be given at the last position.
+-- A service: its engine, how many lines it has taken, what is left to be given at the last position, and the cursors that are held.
 pub record ServiceState : Type 0 where
   pub engine : EngineState
   pub lines : ℕ
   pub answers : AnswersState
+  pub held : HeldState
 
--- The service is that of the text, and took no line: its engine has the schema that the text declares and the queries that it asks, and no answer is left.
+-- The service is that of the text, and took no line: its engine has the schema that the text declares and the queries that it asks, no answer is left, and no cursor is held.
 pub record IsOpened (text : List ℕ) (service : ServiceState) : Type 0 where
   pub accepted : IsAnswerOfText text (Ok (service.engine.schema, map query_tree service.engine.queries))
   pub stands : StandsFor service.engine []
   pub lines : service.lines ≡ 0
   pub over : NoneIsLeft service.engine service.answers
+  pub held : service.held ≡ none_held
 
--- The service has the schema and the queries, and took no line: no answer is left.
+-- The service has the schema and the queries, and took no line: no answer is left, and no cursor is held.
 pub record IsNewOf (schema : Declared) (queries : List Query) (service : ServiceState) : Type 0 where
   pub given : (service.engine.schema ≡ schema) × (service.engine.queries ≡ queries)
   pub stands : StandsFor service.engine []
   pub lines : service.lines ≡ 0
   pub over : NoneIsLeft service.engine service.answers
+  pub held : service.held ≡ none_held
 
 -- The bytes are one line, without a line feed and not too long.
 pub record IsLine (line : List ℕ) : Type 0 where
@@ -66,18 +70,19 @@ StopsRun line engine number fault = (events : List Event) → StandsFor engine e
 
 -- What became of a line that was given to an engine: its event, none, a refusal, or want of memory. Private clauses alone cite it.
 abbrev pub IsGiven : List ℕ → ℕ → EngineState → EngineState → Result Fed (OrMemory EventFault) → Type 0
-IsGiven line number old new (Ok fed.Event) = GivesEvent line old new
+IsGiven line number old new (Ok fed.Event) = GivesEvent line old new × KeepsCursors old new
 IsGiven line number old new (Ok fed.Nothing) = (event_of_line old.schema line ≡ Ok None) × (new ≡ old)
 IsGiven line number old new (Err (Fault fault)) = (new ≡ old) × StopsRun line old number fault
 IsGiven line number old new (Err Memory) = new ≡ old
 
--- The line's event came after all before; the rows at its position are left, and what was left before is dropped.
+-- The line's event came after all before; the rows at its position are left, and what was left before is dropped. Held cursors have the same left.
 pub record TakesEvent (line : List ℕ) (old new : ServiceState) : Type 0 where
   pub one : IsLine line
   pub gives : GivesEvent line old.engine new.engine
   pub lines : new.lines ≡ old.lines + 1
   pub left : (events : List Event) (rows : List Row) → AreLeft new.engine new.answers events rows
       ↔ AreRowsAt Walk new.engine.schema 1 new.engine.queries events (length events - 1) rows
+  pub held : SameHeld old.engine new.engine old.held new.held
 
 -- The line is empty but for a carriage return, and is counted; all else stays.
 pub record PassesLine (line : List ℕ) (old new : ServiceState) : Type 0 where
@@ -114,12 +119,14 @@ pub record Gives (old new : ServiceState) (given : List Row) : Type 0 where
   pub engine : new.engine ≡ old.engine
   pub lines : new.lines ≡ old.lines
   pub leaves : Leaves old.engine old.answers new.answers given
+  pub held : new.held ≡ old.held
 
 -- the answer that was drawn is given, and the service serves the same
 pub record GivesDrawn (old new : ServiceState) : Type 0 where
   pub engine : new.engine ≡ old.engine
   pub lines : new.lines ≡ old.lines
   pub leaves : LeavesDrawn old.engine old.answers new.answers
+  pub held : new.held ≡ old.held
 
 -- What a look made: the same are left, and these are the numbers of the first of them, which is drawn; or none is left.
 pub record IsLooked (old new : ServiceState) (result : Result (Option AnswerNumbers) NoMemory) : Type 0 where

@@ -16,14 +16,17 @@ use Rattle.core_service.specs.Answering.{AreLeft, NoneIsLeft, row_of}
 use Rattle.core_service.specs.Compacting.{IsCompacted}
 use Rattle.core_service.specs.ManyLines.{AreQuiet}
 use Rattle.core_service.specs.Services.{ServiceState, IsOpened, IsFed, IsAnswered}
+use Rattle.core_service.specs.HeldCalls.{LeavesAnswers}
 
--- Answers were asked for until none was left, and these rows were given; where memory ran out, the caller asked again, and where none was left it need not ask. Compactions may come between.
+-- Answers were asked for until none was left, and these rows were given; where memory ran out, the caller asked again, and where none was left it need not ask. Compactions and calls on held cursors may come between, and such calls after it.
 pub data IsEmptied : ServiceState → List Row → ServiceState → Type 0 where
   unasked : {old new : ServiceState} {given : List Row} → given ≡ [] → new ≡ old → NoneIsLeft old.engine old.answers → IsEmptied old given new
   over : {old new : ServiceState} {given : List Row} → given ≡ [] → IsAnswered old new (Ok None) → IsEmptied old given new
   one : {old new last : ServiceState} {given : List Row} (numbers : AnswerNumbers) (later : List Row) → given ≡ row_of numbers new.answers.positions ∷ later
       → IsAnswered old new (Ok (Some numbers)) → IsEmptied new later last → IsEmptied old given last
   compacted : {old new last : ServiceState} {given : List Row} → IsCompacted old new → IsEmptied new given last → IsEmptied old given last
+  beside : {old new last : ServiceState} {given : List Row} → LeavesAnswers old new → IsEmptied new given last → IsEmptied old given last
+  after : {old new last : ServiceState} {given : List Row} → IsEmptied old given new → LeavesAnswers new last → IsEmptied old given last
   again : {old new last : ServiceState} {given : List Row} (refused : NoMemory) → IsAnswered old new (Err refused) → IsEmptied new given last → IsEmptied old given last
 
 -- A line, what became of it, and the rows that were given then.

@@ -1,13 +1,14 @@
 //! The answers at the last position, drawn from the queries one after another.
 
-ghost use Rattle.std.specs.Prelude.{◌≡◌, ◌≢◌, ◌<◌, ◌≤◌, ◌∷◌, ℕ, true, false, [], length, reverse, None, slice_index_or, List, MatchOption, OnOk, OnErr, IfSome, IfNone};
+ghost use Rattle.std.specs.Prelude.{◌≡◌, ◌≢◌, ◌<◌, ◌≤◌, ◌∷◌, ℕ, true, false, [], length, reverse, All, None, slice_index_or, List, MatchOption, OnOk, OnErr, IfSome, IfNone};
 ghost use Rattle.query_engine.specs.Engine.{count_of, Fits, StandsFor, SameQueries};
 ghost use Rattle.stream_schema.specs.declared.Event.{Event};
 ghost use Rattle.query_engine.specs.Running.{AreRising};
 ghost use Rattle.answer_blocks.specs.Wanted.{are_enough, one_fewer, to_give};
-ghost use Rattle.core_service.specs.Answering.{path_of, answers_begun, Leaves, HaveNoAnswer, IsNextQuery, CanAnswer, IsShown, SameLeft};
+ghost use Rattle.core_service.specs.Answering.{path_of, answers_begun, Leaves, HaveNoAnswer, IsNextQuery, CanAnswer, IsShown, AreKept, SameLeft};
 
 use crate::AnswerNumbers;
+use crate::compacting::compact_both;
 use crate::shown::put_rising;
 use cer_base::steps::Steps;
 use cer_base::{Memory, Pos};
@@ -181,6 +182,15 @@ impl PositionAnswers {
         }
     }
 
+    /// Puts the positions of another answer, which are given greatest first, into rising order. What is
+    /// left stays the same.
+    pub fn show_other(&mut self, falling: &[Pos]) -> Result<(), Memory>
+        ensures same { self.new ≡ record self.old { positions = self.new.positions } }
+        ensures shown { OnOk result (self.new.positions ≡ reverse falling.now) }
+    {
+        put_rising(&mut self.positions, falling)
+    }
+
     /// Draws the next answer of the query that was asked last, if it has one more, and none was drawn:
     /// then one is. Else the query has no more.
     fn draw_one<L: Ledger>(&mut self, engine: &Engine, steps: &mut Steps<L>) -> bool
@@ -300,23 +310,29 @@ impl PositionAnswers {
         }
     }
 
-    /// Compacts the engine, with the cursor held: the same is left. After `Memory` nothing has changed.
+    /// Compacts the engine, with the cursor and these others held: the same is left of each. After
+    /// `Memory` nothing has changed.
     pub fn compact<L: Ledger>(
         &mut self,
         engine: &mut Engine,
+        others: &mut Vec<Cursor>,
         steps: &mut Steps<L>,
     ) -> Result<(), Memory>
-        requires { CanAnswer engine.old self.old }
+        requires can { CanAnswer engine.old self.old }
+        requires fit { All (Fits engine.old) others.old.items }
         ensures can { CanAnswer engine.new self.new }
         ensures left { OnOk result (SameLeft engine.old engine.new self.old self.new) }
+        ensures kept { OnOk result
+            (AreKept engine.old engine.new others.old.items others.new.items) }
         ensures stands { OnOk result ((events : List Event) → StandsFor engine.old events
             → StandsFor engine.new events) }
         ensures same { SameQueries engine.old engine.new }
         ensures count { count_of engine.new ≡ count_of engine.old }
         ensures positions { self.new.positions ≡ self.old.positions }
-        ensures unchanged { OnErr result ((engine.new ≡ engine.old) × (self.new ≡ self.old)) }
+        ensures unchanged { OnErr result ((engine.new ≡ engine.old) × (self.new ≡ self.old)
+            × (others.new.items ≡ others.old.items)) }
     {
-        engine.compact(self.cursors.as_mut_slice(), steps)
+        compact_both(engine, others, &mut self.cursors, steps)
     }
 }
 

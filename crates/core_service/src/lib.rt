@@ -1,18 +1,21 @@
 //! The engine as a library for services: made from a query text, it takes the lines of events one at a
 //! time, and gives the answers one at a time as numbers.
 //!
-//! Promised: `Service::open` gives a service of the text's schema and queries, or exactly the text's
-//! first fault; `feed` takes a line's event, or refuses the line for its reason, and then nothing has
-//! changed; `next` gives the rows that are left at the last position, each once, and says when none is
-//! left; want of memory changes nothing of what is served. So whoever asks after each line until none is
-//! left is given exactly the rows of the queries over the events of these lines (`laws`). What a service is
-//! to its callers stands in `specs/Services`, and the whole in `specs/Serving`.
+//! Promised: `Service::open` gives a service of the text's schema and queries, or exactly its first fault;
+//! `feed` takes a line's event, or refuses the line for its reason, and then nothing has changed; `next`
+//! gives the rows that are left at the last position, each once; a cursor that is held (`hold`) gives those
+//! of its query at the position where it was opened, whatever comes after; want of memory changes nothing of
+//! what is served. What this comes to over many calls stands in `laws`, what a service is to its callers in
+//! `specs/Services` and `specs/Holding`, and the whole in `specs/Serving` and `specs/HoldingLaws`.
 //! It stands on `ceql_parser` for the text, `event_reader` and `event_run` for lines, and `query_engine`.
 #![tactic(auto)]
 
 mod answering;
+mod compacting;
+mod held;
 pub mod laws;
 mod lines;
+mod marks;
 mod service;
 mod shown;
 #[cfg(test)]
@@ -20,6 +23,7 @@ mod tests;
 
 use cer_base::Pos;
 use event_reader::EventFault;
+pub use marks::MOST_HELD;
 pub use service::Service;
 
 /// What a line that was taken gives.
@@ -50,6 +54,28 @@ pub enum SomeStop {
     /// The next line is refused.
     Refused(Refused),
     /// Memory ran out.
+    Memory,
+}
+
+/// Why no cursor is held. The first of these that holds is the reason.
+#[derive(Drop, Debug, Clone, Copy, PartialEq, Eq)]
+pub enum HoldFault {
+    /// There is no query of this number, which is from 1.
+    NoQuery,
+    /// No event was taken.
+    NoEventYet,
+    /// As many cursors are held as may be, `MOST_HELD`.
+    TooMany,
+    /// Memory ran out, or 2^62 cursors were opened.
+    Memory,
+}
+
+/// Why a held cursor gives no answer.
+#[derive(Drop, Debug, Clone, Copy, PartialEq, Eq)]
+pub enum HeldFault {
+    /// No cursor of this number is held.
+    NotHeld,
+    /// Memory ran out: the cursor has the same answers left.
     Memory,
 }
 

@@ -1,17 +1,23 @@
-//! A service: an engine, the lines that it has taken, and the answers at the last position.
+//! A service: an engine, the lines that it has taken, the answers at the last position, and the cursors
+//! that are held.
 
-ghost use Rattle.std.specs.Prelude.{◌≡◌, ◌+◌, ◌^◌, ◌<◌, ◌≤◌, false, All, Err, IfOk, OnOk, OnErr, IfSome, IfNone};
+ghost use Rattle.std.specs.Prelude.{◌≡◌, ◌+◌, ◌^◌, ◌<◌, ◌≤◌, false, List, length, All, Err, IfOk, OnOk, OnErr, IfSome, IfNone};
 ghost use Rattle.cer_base.specs.Answers.{OnFault};
 ghost use Rattle.cer_base.specs.declared.OrMemory.TheVariants as or;
 ghost use Rattle.cel_terms.specs.Checked.{IsChecked};
 ghost use Rattle.ceql_parser.specs.QueryTexts.{IsAnswerOfText};
 ghost use Rattle.event_reader.specs.Lines.{has_line_feed};
-ghost use Rattle.query_engine.specs.Engine.{count_of, update_bounds, IsNumber};
+ghost use Rattle.query_engine.specs.Bounds.{update_bound};
+ghost use Rattle.query_engine.specs.Engine.{StandsFor, KeepsCursors, SameQueries, IsNumber, count_of, found_of, update_bounds};
+ghost use Rattle.event_run.specs.Taking.{AfterEvent};
+ghost use Rattle.stream_schema.specs.declared.Event.{Event};
+ghost use Rattle.stream_schema.specs.Events.{IsOfSchema};
 ghost use Rattle.core_service.specs.ManyLines.{IsNext, HasFedSome, some_stop};
 ghost use Rattle.core_service.specs.Compacting.{IsCompacted, AreSizesOf};
 ghost use Rattle.core_service.specs.Services.{IsNewOf, IsOpened, IsGiven, IsFed, IsLooked, IsAnswered, GivesDrawn};
 
 use crate::answering::{PositionAnswers, may_answer};
+use crate::held::HeldCursors;
 use crate::lines::{has_line_feed, line_len};
 use crate::{AnswerNumbers, Fed, FedSome, LineRefusal, Refused, Sizes, SomeStop};
 use ceql_parser::{Accepted, QueryError, read_queries};
@@ -20,11 +26,13 @@ use cer_base::seed::Seed;
 use cer_base::steps::Steps;
 use cer_base::{Memory, OrMemory, Pos};
 use event_reader::{EventBuffer, EventFault};
-use event_run::give_event;
-use query_engine::Engine;
+use query_engine::{Engine, SeeFault};
 use std::alloc::Global;
 use std::marker::Model;
 use std::sync::ledger::Ledger;
+use stream_schema::Event;
+
+mod holding;
 
 /// The most lines that a service takes: 2 to the 62.
 pub const MOST_LINES: u64 = 4_611_686_018_427_387_904;
@@ -39,13 +47,15 @@ pub struct Service {
     lines: u64,
     /// What is left to be given at the last position.
     answers: PositionAnswers,
+    /// The cursors that the caller holds.
+    held: HeldCursors,
 }
 
 impl Model for Service {
-    ghost use Rattle.std.specs.Prelude.{◌≤◌};
+    ghost use Rattle.std.specs.Prelude.{◌≤◌, All};
     ghost use Rattle.std.specs.Coded.{codes};
     ghost use Rattle.cel_terms.specs.contracts.Formula as formula;
-    ghost use Rattle.query_engine.specs.Engine.{count_of};
+    ghost use Rattle.query_engine.specs.Engine.{Fits, count_of};
     ghost use Rattle.core_service.specs.Answering.{CanAnswer};
     ghost use Rattle.core_service.specs.ManyLines.{IsNext, HasFedSome, some_stop};
     ghost use Rattle.core_service.specs.Compacting.{IsCompacted, AreSizesOf};
@@ -55,10 +65,15 @@ impl Model for Service {
 
     ghost coded = { Prim.hlevel (codes, formula.the_row.coded) };
 
-    ghost view = { λ s. record { engine = s.engine; lines = s.lines; answers = s.answers } };
+    ghost view = { λ s. record {
+      engine = s.engine;
+      lines = s.lines;
+      answers = s.answers;
+      held = s.held;
+    } };
 
     ghost invariant = { λ s. CanAnswer s.engine s.answers × (count_of s.engine ≤ s.lines)
-        × (s.lines ≤ 4611686018427387904) };
+        × (s.lines ≤ 4611686018427387904) × All (Fits s.engine) s.held.cursors };
 }
 
 impl Service {
@@ -92,6 +107,7 @@ impl Service {
                 row: EventBuffer::new(alloc),
                 lines: 0,
                 answers: PositionAnswers::after(alloc, count),
+                held: HeldCursors::new(alloc),
             }),
             Err(_) => Err(OrMemory::Memory),
         }
@@ -101,7 +117,7 @@ impl Service {
     /// has changed.
     ///
     /// Once an event is taken, what was left to be given before it is dropped, and its own answers are
-    /// left. An empty line gives no event, and leaves what was left.
+    /// left. An empty line gives no event, and leaves what was left. Held cursors have the same left.
     ///
     /// - `LineFeed`: the bytes hold a line feed.
     /// - `LineTooLong`: they are more than 65,536.
@@ -247,13 +263,14 @@ impl Service {
         }
     }
 
-    /// Gives up what no window reaches any more, and no answer: the same are left. After `Memory`
-    /// nothing has changed.
+    /// Gives up what no window reaches any more, and no answer: the same are left, at the last position and
+    /// of each held cursor. After `Memory` nothing has changed.
     pub fn compact<L: Ledger>(&mut self, steps: &mut Steps<L>) -> Result<(), Memory>
         ensures compacted { OnOk result (IsCompacted self.old self.new) }
         ensures unchanged { OnErr result (self.new ≡ self.old) }
     {
-        self.answers.compact(&mut self.engine, steps)
+        self.held
+            .compact(&mut self.engine, &mut self.answers, steps)
     }
 
     /// What is kept of the query of this number, from 1; none where there is no such query.
@@ -315,11 +332,38 @@ fn give_line<L: Ledger>(
     ensures steps { OnOk result (steps.new ≤ steps.old + update_bounds engine.new) }
 {
     match row.read(alloc, engine.schema(), line) {
-        Ok(true) => match give_event(number, row.event(), engine, steps) {
+        Ok(true) => match see_event(number, row.event(), engine, steps) {
             Ok(()) => Ok(Fed::Event),
             Err(stop) => Err(stop),
         },
         Ok(false) => Ok(Fed::Nothing),
         Err(stop) => Err(stop),
+    }
+}
+
+/// Gives the engine the event of the line with this number. Cursors have the same left. After an error
+/// nothing has changed.
+fn see_event<L: Ledger>(
+    line: u64,
+    event: &Event,
+    engine: &mut Engine,
+    steps: &mut Steps<L>,
+) -> Result<(), OrMemory<EventFault>>
+    requires of_schema { IsOfSchema engine.old.schema event.now }
+    requires room { count_of engine.old + 1 < 2 ^ 64 }
+    ensures took { (events : List Event) → StandsFor engine.old events
+        → AfterEvent engine.old.schema engine.old.queries line engine.new event.now events result }
+    ensures cursors { OnOk result (KeepsCursors engine.old engine.new) }
+    ensures counted { OnOk result (count_of engine.new ≡ count_of engine.old + 1) }
+    ensures unchanged { OnErr result (engine.new ≡ engine.old) }
+    ensures same { SameQueries engine.old engine.new }
+    ensures steps { OnOk result (steps.new ≤ steps.old + update_bounds engine.new) }
+{
+    match engine.see(event, steps) {
+        Ok(_) => Ok(()),
+        Err(SeeFault::TimeBack { query, before, now }) => {
+            Err(OrMemory::Fault(EventFault::TimeBack { query, before, now }))
+        }
+        Err(SeeFault::Memory) => Err(OrMemory::Memory),
     }
 }

@@ -1,6 +1,8 @@
-//! The example of README.md through a service.
+//! The example of README.md through a service, and held cursors (`holding`).
 
 ghost use Rattle.std.specs.Prelude.{◌≡◌};
+
+mod holding;
 
 use crate::{AnswerNumbers, Service};
 use cer_base::seed::Seed;
@@ -91,16 +93,47 @@ fn put_lines<L: Ledger>(
     Ok(())
 }
 
-/// What a service of the text gives for the lines.
-fn put_all<L: Ledger>(alloc: Global, numbers: &mut Vec<u64>, opening: Opening) -> Result<(), Memory>
+/// What is played.
+#[derive(Drop, Clone, Copy)]
+pub enum Play {
+    /// The example of README.md.
+    Example,
+    /// Held cursors.
+    Held,
+}
+
+fn put_play<L: Ledger>(
+    alloc: Global,
+    play: Play,
+    service: &mut Service,
+    numbers: &mut Vec<u64>,
+    steps: &mut Steps<L>,
+) -> Result<(), Memory> {
+    match play {
+        Play::Example => put_lines(alloc, service, numbers, steps),
+        Play::Held => holding::put_lines(alloc, service, numbers, steps),
+    }
+}
+
+/// What a service of the play's text gives.
+pub fn put_all<L: Ledger>(
+    alloc: Global,
+    play: Play,
+    numbers: &mut Vec<u64>,
+    opening: Opening,
+) -> Result<(), Memory>
     requires name { opening.name ≡ L.name }
     requires parts { opening.parts ≡ L.parts }
 {
     let mut steps: Steps<L> = Steps::start(opening);
-    match Service::open(alloc, Seed::default(), TEXT) {
+    let text = match play {
+        Play::Example => TEXT,
+        Play::Held => holding::TEXT,
+    };
+    match Service::open(alloc, Seed::default(), text) {
         Ok(service) => {
             let mut service = service;
-            put_lines(alloc, &mut service, numbers, &mut steps)
+            put_play(alloc, play, &mut service, numbers, &mut steps)
         }
         Err(_) => Err(Memory),
     }
@@ -109,7 +142,7 @@ fn put_all<L: Ledger>(alloc: Global, numbers: &mut Vec<u64>, opening: Opening) -
 #[test]
 fn the_example_is_answered_in_numbers(rt: HostRuntime) -> Result<(), Memory> {
     let mut numbers = Vec::new(rt.alloc());
-    put_all::<Brand>(rt.alloc(), &mut numbers, Opening::new(&rt))?;
+    put_all::<Brand>(rt.alloc(), Play::Example, &mut numbers, Opening::new(&rt))?;
     assert_eq!(rt; numbers.as_slice(), WANTED);
     Ok(())
 }

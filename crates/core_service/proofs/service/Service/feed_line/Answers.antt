@@ -5,5 +5,6 @@ use Rattle.core_service.proofs.service.Service.feed_line.Goals as goal
 
 pub returns-in-Ok-Event-clause-fed : goal.returns-in-Ok-Event-clause-fed
 returns-in-Ok-Event-clause-fed g c =
-    fed_event c.args.line.now c.self.inside.engine c.self.inside.lines c.self.inside.answers c.args.self.now c.self.view_is c.give_line.new.engine c.begin.new.self
-    c.requires (omega arith) (rw c.in-Ok-Event.field-0-is at c.in-Ok-Event.ensures.given) c.begin.ensures
+    let s = c.self.inside in
+    fed_event c.args.line.now s.engine s.lines s.answers s.held c.args.self.now c.self.view_is c.give_line.new.engine c.begin.new.self
+    c.self.invariant.3 c.requires (omega arith) (rw c.in-Ok-Event.field-0-is at c.in-Ok-Event.ensures.given) c.begin.ensures

@@ -38,11 +38,13 @@ extern "C" {
 enum core_status {
     CORE_OK = 0,     /* What was asked is done. */
     CORE_NONE = 1,   /* There is nothing: an empty line, no whole line, no answer, no such query. */
-    CORE_ROOM = 2,   /* The answer has more positions than there is room for. It is kept. */
+    CORE_ROOM = 2,   /* The answer has more positions than there is room for, and is kept; or 64 cursors
+                        are held. */
     CORE_QUERY = 3,  /* The query text is refused. */
     CORE_EVENT = 4,  /* A line is refused, which has changed nothing. */
     CORE_MEMORY = 5, /* Memory ran out, which has changed nothing: the call may be made again. */
-    CORE_MISUSE = 6  /* The engine is closed; or it is open, and was to be opened. Nothing has changed. */
+    CORE_MISUSE = 6  /* The engine is closed; or it is open, and was to be opened; or no cursor of this
+                        number is held. Nothing has changed. */
 };
 
 /* Where an engine has its service. */
@@ -128,6 +130,25 @@ int32_t core_feed_some(core_engine *engine, const uint8_t *bytes, size_t len, si
  * CORE_NONE: no answer is left. CORE_MEMORY. CORE_MISUSE.
  */
 int32_t core_next(core_engine *engine, core_answer *answer, uint64_t *positions, size_t room);
+
+/*
+ * Holds a cursor over all answers of the query with this number, from 1, that end at the last event,
+ * whatever ANY says, and tells the cursor's number, which is from 1 and is given once. What it has left
+ * stays, whatever is fed and asked, until it has given it or is dropped, or the engine is closed.
+ * CORE_OK. CORE_NONE: there is no such query, or no event yet. CORE_ROOM: 64 cursors are held.
+ * CORE_MEMORY. CORE_MISUSE.
+ */
+int32_t core_hold(core_engine *engine, uint64_t query, uint64_t *cursor);
+
+/*
+ * Gives the next answer of a held cursor as core_next does; what is left at the last event stays left.
+ * CORE_NONE: the cursor has none left, and is held still. CORE_MISUSE: no cursor of this number is held.
+ */
+int32_t core_pull(core_engine *engine, uint64_t cursor, core_answer *answer,
+                  uint64_t *positions, size_t room);
+
+/* Lets a held cursor go, with what it has left. CORE_OK, or CORE_MISUSE where none of this number is held. */
+int32_t core_drop(core_engine *engine, uint64_t cursor);
 
 /* Gives up what no window reaches any more; the same answers are left. CORE_OK, CORE_MEMORY, CORE_MISUSE. */
 int32_t core_compact(core_engine *engine);

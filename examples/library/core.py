@@ -70,6 +70,9 @@ def _load():
         "core_feed": [engine, *bytes_in, *told],
         "core_feed_some": [engine, *bytes_in, ctypes.POINTER(size), *told],
         "core_next": [engine, ctypes.POINTER(_Answer), ctypes.POINTER(ctypes.c_uint64), size],
+        "core_hold": [engine, ctypes.c_uint64, ctypes.POINTER(ctypes.c_uint64)],
+        "core_pull": [engine, ctypes.c_uint64, ctypes.POINTER(_Answer), ctypes.POINTER(ctypes.c_uint64), size],
+        "core_drop": [engine, ctypes.c_uint64],
         "core_compact": [engine],
         "core_sizes": [engine, ctypes.c_uint64, ctypes.POINTER(_Sizes)],
         "core_close": [engine],
@@ -126,8 +129,29 @@ class Engine:
 
     def answers(self):
         """Gives the answers that are left at the last event, one after another."""
+        return self._pulled(_library.core_next, self._engine)
+
+    def hold(self, query):
+        """Holds all answers of the query with this number, from 1, that end at the last event.
+
+        They are given one after another, whatever is fed meanwhile, to the end or until they are closed.
+        None where there is no such query, or no event yet. 64 may be held at a time.
+        """
+        cursor = ctypes.c_uint64()
+        status = _library.core_hold(self._engine, query, cursor)
+        if status == ROOM:
+            raise MemoryError("64 are held")
+        return self._held(cursor.value) if self._see(status) else None
+
+    def _held(self, cursor):
+        try:
+            yield from self._pulled(_library.core_pull, self._engine, cursor)
+        finally:
+            _library.core_drop(self._engine, cursor)
+
+    def _pulled(self, call, *of):
         while True:
-            status = _library.core_next(self._engine, self._answer, self._positions, len(self._positions))
+            status = call(*of, self._answer, self._positions, len(self._positions))
             if status == ROOM:
                 self._positions = (ctypes.c_uint64 * self._answer.count)()
             elif self._see(status):

@@ -66,6 +66,9 @@ unsafe extern "C" {
         m: usize,
     ) -> i32;
     fn core_next(e: *mut RawEngine, a: *mut RawAnswer, p: *mut u64, m: usize) -> i32;
+    fn core_hold(e: *mut RawEngine, query: u64, cursor: *mut u64) -> i32;
+    fn core_pull(e: *mut RawEngine, cursor: u64, a: *mut RawAnswer, p: *mut u64, m: usize) -> i32;
+    fn core_drop(e: *mut RawEngine, cursor: u64) -> i32;
     fn core_compact(e: *mut RawEngine) -> i32;
     fn core_sizes(e: *mut RawEngine, query: u64, sizes: *mut Sizes) -> i32;
     fn core_close(e: *mut RawEngine) -> i32;
@@ -76,6 +79,7 @@ const NONE: i32 = 1;
 const ROOM: i32 = 2;
 const QUERY: i32 = 3;
 const EVENT: i32 = 4;
+const MEMORY: i32 = 5;
 
 /// Why a call did not do what it was asked. Nothing has changed.
 #[derive(Debug, Clone, PartialEq, Eq)]
@@ -86,6 +90,8 @@ pub enum Error {
     Line { line: u64, words: String },
     /// Memory ran out.
     Memory,
+    /// 64 cursors are held.
+    TooMany,
 }
 
 impl fmt::Display for Error {
@@ -93,6 +99,7 @@ impl fmt::Display for Error {
         match self {
             Error::Query { words, .. } | Error::Line { words, .. } => f.write_str(words),
             Error::Memory => f.write_str("the engine has no memory"),
+            Error::TooMany => f.write_str("64 cursors are held"),
         }
     }
 }
@@ -185,6 +192,48 @@ impl Engine {
         (used, fed)
     }
 
+    /// Holds a cursor over all answers of the query with this number, from 1, that end at the last event;
+    /// none where there is no such query, or no event yet. What it has left stays, whatever is fed, until
+    /// it is pulled or let go.
+    pub fn hold(&mut self, query: u64) -> Result<Option<Cursor>, Error> {
+        let mut number = 0;
+        match unsafe { core_hold(&mut self.raw, query, &mut number) } {
+            OK => Ok(Some(Cursor { number })),
+            NONE => Ok(None),
+            ROOM => Err(Error::TooMany),
+            _ => Err(Error::Memory),
+        }
+    }
+
+    /// Gives the next answer of the held cursor, if it has one more. The cursor is one of this engine's.
+    pub fn pull(&mut self, cursor: &Cursor) -> Option<Result<Answer, Error>> {
+        self.pulled(|raw, answer, positions, room| unsafe { core_pull(raw, cursor.number, answer, positions, room) })
+    }
+
+    /// Lets the held cursor go.
+    pub fn let_go(&mut self, cursor: Cursor) {
+        unsafe { core_drop(&mut self.raw, cursor.number) };
+    }
+
+    /// What the call gives, which is made again with more room where it needs that.
+    fn pulled(
+        &mut self,
+        mut call: impl FnMut(*mut RawEngine, *mut RawAnswer, *mut u64, usize) -> i32,
+    ) -> Option<Result<Answer, Error>> {
+        let Engine { raw, positions } = self;
+        let mut answer = RawAnswer::default();
+        loop {
+            match call(raw, &mut answer, positions.as_mut_ptr(), positions.len()) {
+                OK => break,
+                ROOM => positions.resize(answer.count, 0),
+                MEMORY => return Some(Err(Error::Memory)),
+                _ => return None,
+            }
+        }
+        let RawAnswer { query, start, end, count } = answer;
+        Some(Ok(Answer { query, start, end, positions: positions[..count].to_vec() }))
+    }
+
     /// Gives up what no window reaches any more.
     pub fn compact(&mut self) -> Result<(), Error> {
         match unsafe { core_compact(&mut self.raw) } {
@@ -206,6 +255,11 @@ impl Drop for Engine {
     }
 }
 
+/// A cursor that an engine holds.
+pub struct Cursor {
+    number: u64,
+}
+
 /// Why `feed_some` took no further line.
 pub enum Fed<'a> {
     /// The last event may have answers: these.
@@ -223,17 +277,6 @@ impl Iterator for Answers<'_> {
     type Item = Result<Answer, Error>;
 
     fn next(&mut self) -> Option<Result<Answer, Error>> {
-        let Engine { raw, positions } = &mut *self.engine;
-        let mut answer = RawAnswer::default();
-        loop {
-            match unsafe { core_next(raw, &mut answer, positions.as_mut_ptr(), positions.len()) } {
-                OK => break,
-                NONE => return None,
-                ROOM => positions.resize(answer.count, 0),
-                _ => return Some(Err(Error::Memory)),
-            }
-        }
-        let RawAnswer { query, start, end, count } = answer;
-        Some(Ok(Answer { query, start, end, positions: positions[..count].to_vec() }))
+        self.engine.pulled(|raw, answer, positions, room| unsafe { core_next(raw, answer, positions, room) })
     }
 }

@@ -18,6 +18,7 @@ static uint64_t positions[8];
 static uint8_t words[200];
 static size_t room = sizeof words;
 static size_t used;
+static uint64_t cursor;
 
 static void say(const char *what, int32_t status)
 {
@@ -77,12 +78,25 @@ static void gather(size_t places, uint64_t *starts)
         *starts += answer.start;
 }
 
+/* The same of a held cursor. */
+static void pull(uint64_t cursor, size_t places, uint64_t *starts)
+{
+    int32_t status = core_pull(&engine, cursor, &answer, positions, places);
+
+    say("pull", status);
+    if (status == CORE_OK)
+        *starts += answer.start;
+}
+
 static void all_on_closed(void)
 {
     say("feed", feed("A,1"));
     say("feed_some", feed_some("A,1\n"));
     printf("  %zu used\n", used);
     next(8);
+    say("hold", core_hold(&engine, 1, &cursor));
+    pull(1, 8, &answer.start);
+    say("drop", core_drop(&engine, 1));
     say("compact", core_compact(&engine));
     say("sizes", core_sizes(&engine, 1, &sizes));
     say("close", core_close(&engine));
@@ -122,6 +136,7 @@ int main(void)
 
     puts("-- lines");
     next(8);
+    say("hold", core_hold(&engine, 2, &cursor));
     say("feed", feed("B,2"));
     say("feed", feed("C,3"));
     say_fault();
@@ -161,6 +176,31 @@ int main(void)
     say("feed_some", feed_some(""));
     printf("  %zu used\n", used);
 
+    puts("-- a held cursor, over four answers and later lines");
+    starts = 0;
+    say("feed", feed("B,11"));
+    say("hold", core_hold(&engine, 1, &cursor));
+    printf("  cursor %" PRIu64 "\n", cursor);
+    pull(cursor, 1, &starts);
+    pull(cursor, 2, &starts);
+    say("feed", feed("A,12"));
+    say("compact", core_compact(&engine));
+    next(8);
+    for (int i = 0; i < 3; i++)
+        pull(cursor, 2, &starts);
+    pull(cursor, 2, &starts);
+    printf("  the starts add up to %" PRIu64 "\n", starts);
+    pull(cursor + 1, 2, &starts);
+    say("drop", core_drop(&engine, cursor));
+    say("drop", core_drop(&engine, cursor));
+    pull(cursor, 2, &starts);
+    for (int i = 0; i < 64; i++)
+        if (core_hold(&engine, 1, &cursor) != CORE_OK)
+            printf("  %d was not held\n", i);
+    printf("  cursor %" PRIu64 "\n", cursor);
+    say("hold", core_hold(&engine, 1, &cursor));
+    printf("  cursor %" PRIu64 "\n", cursor);
+
     puts("-- sizes");
     say("sizes", core_sizes(&engine, 1, &sizes));
     printf("  %" PRIu64 " events, %" PRIu64 " queries\n", sizes.events, sizes.queries);
@@ -173,6 +213,7 @@ int main(void)
 
     puts("-- opened anew");
     say("open", open_with(text));
+    say("hold", core_hold(&engine, 1, &cursor));
     say("feed", feed("B,1"));
     next(8);
     say("close", core_close(&engine));

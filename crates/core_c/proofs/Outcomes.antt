@@ -9,8 +9,6 @@ use Rattle.core_service.specs.declared.SomeStop.TheVariants as stop
 use Rattle.core_service.specs.Answering.{AnswersState, AreLeft, AreNumbers, Leaves, LeavesDrawn, rows_drawn, row_of}
 use Rattle.core_service.specs.Services.{ServiceState, IsLooked, IsAnswered, GivesDrawn}
 use Rattle.core_service.specs.ManyLines.{HasFedSome}
-use Rattle.core_c.specs.declared.answers.CoreAnswer.{CoreAnswer}
-use Rattle.core_c.specs.Calls.{HasAnswered}
 
 -- the answer that was drawn is given: its row was the first that was left
 given_first : (engine seen : EngineState) (old looked new : AnswersState) (numbers : AnswerNumbers) (positions : List ℕ) → seen ≡ engine → positions ≡ looked.positions
@@ -32,6 +30,7 @@ answered old looked new numbers look drawn same = (
   record {
     engine = drawn.engine ∙ look.gives.engine;
     lines = drawn.lines ∙ look.gives.lines;
+    held = drawn.held ∙ look.gives.held;
     leaves = given_first old.engine looked.engine old.answers looked.answers new.answers numbers new.answers.positions look.gives.engine same look.gives.leaves look.shown drawn.leaves;
   },
   look.shown.count ∙ ap (λ (places : List ℕ). length places) (sym same),
@@ -45,9 +44,6 @@ untold bytes old new used s refused is fed =
     record { quiet = h.quiet; last = h.last; middle = h.middle; within = h.within; used = h.used; taken = h.taken; stopped = (h.stopped.0, h.stopped.1.refuses.stays) }
 
 -- the service that the handle has is that which was asked, before the call and after it
-pub answered_by : (old asked new left : ServiceState) (status told_status : ℤ) (answer told : CoreAnswer) (room positions : List ℕ) → asked ≡ old → new ≡ left → told_status ≡ status
-    → HasAnswered asked left status answer told room positions → HasAnswered old new told_status answer told room positions
-answered_by old asked new left status told_status answer told room positions first last same h =
-    subst (λ (s : ℤ). HasAnswered old new s answer told room positions) (sym same)
-    (subst (λ (s : ServiceState). HasAnswered old s status answer told room positions) (sym last)
-    (subst (λ (s : ServiceState). HasAnswered s left status answer told room positions) first h))
+pub carried : (P : ServiceState → ServiceState → ℤ → Type 0) (old asked new left : ServiceState) (status told : ℤ) → asked ≡ old → new ≡ left → told ≡ status → P asked left status → P old new told
+carried P old asked new left status told first last same h =
+    subst (λ (s : ℤ). P old new s) (sym same) (subst (λ (s : ServiceState). P old s status) (sym last) (subst (λ (s : ServiceState). P s left status) first h))

@@ -1,3 +1,4 @@
 pub mod Held
 pub mod Notes
 pub mod Calls
+pub mod HeldCalls

@@ -25,7 +25,7 @@ pub struct CoreAnswer {
 }
 
 /// Tells the numbers.
-fn tell_numbers(numbers: AnswerNumbers, answer: &mut CoreAnswer)
+pub fn tell_numbers(numbers: AnswerNumbers, answer: &mut CoreAnswer)
     ensures { answer.new ≡ numbers_told numbers }
 {
     answer.query = numbers.query;

@@ -6,11 +6,12 @@
 //! Promised: each call does to the service what `core_service` says of the call that it stands for, and
 //! its status tells which of its outcomes came; a note is written as far as the caller has room for it;
 //! an answer for which there is no room is kept; a closed engine stays closed, and says so. What each
-//! call leaves is in `specs/Calls`. The two files with raw pointers are `handle` and `unboxed`.
+//! call leaves is in `specs/Calls` and `specs/HeldCalls`. The two files with raw pointers are `handle` and `unboxed`.
 #![tactic(auto)]
 
 mod answers;
 mod count;
+mod cursors;
 mod engine;
 mod feeding;
 mod handle;
@@ -20,6 +21,7 @@ pub mod status;
 mod unboxed;
 
 pub use answers::{CoreAnswer, core_next};
+pub use cursors::{core_drop, core_hold, core_pull};
 pub use engine::{CoreEngine, core_close, core_open, core_version};
 pub use feeding::{core_feed, core_feed_some};
 pub use handle::Handle;

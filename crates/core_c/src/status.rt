@@ -5,10 +5,12 @@
 pub const OK: i32 = 0;
 
 /// There is nothing: the line is empty (`core_feed`), no whole line is left (`core_feed_some`), no answer
-/// is left (`core_next`), there is no query of this number (`core_sizes`).
+/// is left (`core_next`, `core_pull`), there is no query of this number (`core_sizes`, `core_hold`), or no
+/// event yet (`core_hold`).
 pub const NONE: i32 = 1;
 
-/// The answer has more positions than the buffer has room for. It is kept.
+/// The answer has more positions than the buffer has room for, and is kept; or as many cursors are held as
+/// may be (`core_hold`).
 pub const ROOM: i32 = 2;
 
 /// The query text is refused.
@@ -20,5 +22,6 @@ pub const EVENT: i32 = 4;
 /// Memory ran out, which has changed nothing.
 pub const MEMORY: i32 = 5;
 
-/// The engine is closed; or it is open, and was to be opened. Nothing has changed.
+/// The engine is closed; or it is open, and was to be opened; or no cursor of this number is held. Nothing
+/// has changed.
 pub const MISUSE: i32 = 6;

@@ -20,6 +20,6 @@ mod Among
 -- held cursors as one comes, changes or goes
 mod Changing
 -- calls on held cursors
-mod HeldServices
+pub mod HeldServices
 -- what a held cursor gives over many calls
 mod HeldGiven

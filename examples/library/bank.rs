@@ -1,5 +1,7 @@
 //! Answers a query text over a file of events, a line an answer: bank QUERIES EVENTS.
 
+// A face of its own would be a crate; here what the program does not call is let pass.
+#[allow(dead_code)]
 #[path = "core.rs"]
 mod engine;
 

@@ -134,20 +134,14 @@ class Engine:
     def hold(self, query):
         """Holds all answers of the query with this number, from 1, that end at the last event.
 
-        They are given one after another, whatever is fed meanwhile, to the end or until they are closed.
-        None where there is no such query, or no event yet. 64 may be held at a time.
+        They are given one after another, whatever is fed meanwhile, until they are closed, as at the end
+        of a `with`. None where there is no such query, or no event yet. 64 may be held at a time.
         """
         cursor = ctypes.c_uint64()
         status = _library.core_hold(self._engine, query, cursor)
         if status == ROOM:
             raise MemoryError("64 are held")
-        return self._held(cursor.value) if self._see(status) else None
-
-    def _held(self, cursor):
-        try:
-            yield from self._pulled(_library.core_pull, self._engine, cursor)
-        finally:
-            _library.core_drop(self._engine, cursor)
+        return Held(self, cursor.value) if self._see(status) else None
 
     def _pulled(self, call, *of):
         while True:
@@ -197,3 +191,28 @@ class Engine:
     def close(self):
         """Frees what the engine has. It may be closed already."""
         _library.core_close(self._engine)
+
+
+class Held:
+    """The answers that an engine holds: an iterator, which is to be closed."""
+
+    def __init__(self, engine, cursor):
+        self._engine, self._cursor = engine, cursor
+        self._answers = engine._pulled(_library.core_pull, engine._engine, cursor)
+
+    def __enter__(self):
+        return self
+
+    def __exit__(self, *_):
+        self.close()
+
+    def __iter__(self):
+        return self
+
+    def __next__(self):
+        return next(self._answers)
+
+    def close(self):
+        """Lets what is left go. It may be closed already."""
+        self._answers.close()
+        _library.core_drop(self._engine._engine, self._cursor)

@@ -78,12 +78,16 @@ static void note(const char *what, uint64_t number)
     snprintf(log_of_run + len, sizeof log_of_run - len, "%s %" PRIu64 "\n", what, number);
 }
 
+/* The answers at the last event, and once more from a cursor that is held over them. */
 static void note_answers(void)
 {
     core_answer answer;
-    uint64_t positions[8];
+    uint64_t positions[8], cursor = 0;
     int32_t status;
 
+    do
+        status = core_hold(&engine, 1, &cursor);
+    while (again(status));
     while ((status = core_next(&engine, &answer, positions, 8)) != CORE_NONE) {
         if (again(status))
             continue;
@@ -95,6 +99,16 @@ static void note_answers(void)
         for (size_t i = 0; i < answer.count; i++)
             note("  marks", positions[i]);
     }
+    while ((status = core_pull(&engine, cursor, &answer, positions, 8)) != CORE_NONE) {
+        if (again(status))
+            continue;
+        if (status != CORE_OK) {
+            note("held: status", (uint64_t)status);
+            return;
+        }
+        note("held answer to", answer.end);
+    }
+    core_drop(&engine, cursor);
 }
 
 static void run(void)
@@ -159,6 +173,7 @@ int main(void)
         }
     }
     refusing = false;
-    printf("%s runs with refusals: the same\n", runs > 100 && tried >= runs ? "more than a hundred" : "too few");
+    printf("%s runs with refusals: the same\n",
+           runs > 100 && tried >= runs ? "more than a hundred" : "too few");
     return 0;
 }

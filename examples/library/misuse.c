@@ -30,7 +30,8 @@ static void say_fault(void)
 {
     size_t told = fault.words < room ? fault.words : room;
 
-    printf("  %" PRIu64 ":%" PRIu64 ", %zu bytes: %.*s", fault.line, fault.column, fault.words, (int)told, words);
+    printf("  %" PRIu64 ":%" PRIu64 ", %zu bytes: %.*s", fault.line, fault.column, fault.words, (int)told,
+           words);
     if (told < fault.words)
         printf("...\n");
     for (size_t i = told; i < sizeof words; i++)
@@ -64,7 +65,8 @@ static void next(size_t places)
     status = core_next(&engine, &answer, positions, places);
     say("next", status);
     if (status == CORE_OK || status == CORE_ROOM)
-        printf("  query %" PRIu64 ", %" PRIu64 " to %" PRIu64 ", %zu positions, the first of them %" PRIu64 " %" PRIu64 "\n",
+        printf("  query %" PRIu64 ", %" PRIu64 " to %" PRIu64 ", %zu positions, the first of them %" PRIu64
+               " %" PRIu64 "\n",
                answer.query, answer.start, answer.end, answer.count, positions[0], positions[1]);
 }
 

@@ -5,8 +5,8 @@
 //! number, and beside it what stands in the structs and buffers that the caller lent for the call.
 //! Promised: each call does to the service what `core_service` says of the call that it stands for, and
 //! its status tells which of its outcomes came; a note is written as far as the caller has room for it;
-//! an answer for which there is no room is kept; a closed engine stays closed, and says so. What each
-//! call leaves is in `specs/Calls` and `specs/HeldCalls`. The two files with raw pointers are `handle` and `unboxed`.
+//! an answer for which there is no room is kept; a closed engine stays closed, and says so: `specs/Calls`
+//! and `specs/HeldCalls`. The files with raw pointers are `handle`, `unboxed` and `count`.
 #![tactic(auto)]
 
 mod answers;

@@ -16,7 +16,8 @@ use crate::text_prefilters::may_open;
 use cel_terms::Query;
 use cer_base::Memory;
 use cer_base::bits::Bits;
-use predicate_bits::checks::hold_by;
+use predicate_bits::checks::{checks_hold, lies_in};
+use predicate_bits::holding::each_holds;
 use predicate_bits::ranges::{Range, may_hold};
 use std::alloc::Global;
 use std::marker::Model;
@@ -139,12 +140,18 @@ fn list_of(indexes: &[Vec<Index>], ty: TypeId) -> Option<&Vec<Index>>
     indexes.get(ty as usize)
 }
 
-/// Whether the leaf's tests hold of the event.
+/// Whether the leaf's tests hold of the event. They lie elsewhere, and are read only where the checks
+/// do not tell.
 fn holds_of(range: &Range, leaf: &IndexedLeaf, event: &Event) -> bool
     requires { IsRangeOf range.now leaf.now }
     ensures { result ≡ tests_hold leaf.now.tests event.now }
 {
-    hold_by(range, &leaf.checks, leaf.tests.as_slice(), event)
+    if let Some(checks) = &leaf.checks {
+        if let Some(inside) = lies_in(range, event) {
+            return inside && checks_hold(checks.as_slice(), event);
+        }
+    }
+    each_holds(leaf.tests.as_slice(), event)
 }
 
 /// Puts in the query's number, and the leaf's into the query's set, which is emptied where the query

@@ -67,6 +67,8 @@ pub struct QueryState {
     here: Option<u64>,
     /// For each type the places of the partition's attributes. Queries with the same ones share them.
     keys: Rc<Vec<Option<Places>>>,
+    /// For each type whether the query reads it. Queries over the same streams share it.
+    types: Rc<Vec<bool>>,
     /// Where its clock is read, and how wide its window is. It sees no event.
     clock: Clock,
     step: Option<Step>,
@@ -79,8 +81,6 @@ pub struct QueryState {
     no_leaves: Bits,
     /// The leaves that may read the first event of a match.
     first: Bits,
-    /// For each type whether the query reads it. Queries over the same streams share it.
-    types: Rc<Vec<bool>>,
     query: Query,
     /// The engine's schema, which all query states share.
     schema: Rc<Schema>,

@@ -8,10 +8,7 @@ ghost use Rattle.cel_terms.specs.Checked.{IsChecked};
 ghost use Rattle.ceql_parser.specs.QueryTexts.{IsAnswerOfText};
 ghost use Rattle.event_reader.specs.Lines.{has_line_feed};
 ghost use Rattle.query_engine.specs.Bounds.{update_bound};
-ghost use Rattle.query_engine.specs.Engine.{StandsFor, KeepsCursors, SameQueries, IsNumber, count_of, found_of, update_bounds};
-ghost use Rattle.event_run.specs.Taking.{AfterEvent};
-ghost use Rattle.stream_schema.specs.declared.Event.{Event};
-ghost use Rattle.stream_schema.specs.Events.{IsOfSchema};
+ghost use Rattle.query_engine.specs.Engine.{KeepsCursors, IsNumber, count_of, found_of, update_bounds};
 ghost use Rattle.core_service.specs.ManyLines.{IsNext, HasFedSome, some_stop};
 ghost use Rattle.core_service.specs.Compacting.{IsCompacted, AreSizesOf};
 ghost use Rattle.core_service.specs.Services.{IsNewOf, IsOpened, IsGiven, IsFed, IsLooked, IsAnswered, GivesDrawn};
@@ -26,11 +23,11 @@ use cer_base::seed::Seed;
 use cer_base::steps::Steps;
 use cer_base::{Memory, OrMemory, Pos};
 use event_reader::{EventBuffer, EventFault};
-use query_engine::{Engine, SeeFault};
+use event_run::give_event;
+use query_engine::Engine;
 use std::alloc::Global;
 use std::marker::Model;
 use std::sync::ledger::Ledger;
-use stream_schema::Event;
 
 mod holding;
 
@@ -332,38 +329,11 @@ fn give_line<L: Ledger>(
     ensures steps { OnOk result (steps.new ≤ steps.old + update_bounds engine.new) }
 {
     match row.read(alloc, engine.schema(), line) {
-        Ok(true) => match see_event(number, row.event(), engine, steps) {
+        Ok(true) => match give_event(number, row.event(), engine, steps) {
             Ok(()) => Ok(Fed::Event),
             Err(stop) => Err(stop),
         },
         Ok(false) => Ok(Fed::Nothing),
         Err(stop) => Err(stop),
-    }
-}
-
-/// Gives the engine the event of the line with this number. Cursors have the same left. After an error
-/// nothing has changed.
-fn see_event<L: Ledger>(
-    line: u64,
-    event: &Event,
-    engine: &mut Engine,
-    steps: &mut Steps<L>,
-) -> Result<(), OrMemory<EventFault>>
-    requires of_schema { IsOfSchema engine.old.schema event.now }
-    requires room { count_of engine.old + 1 < 2 ^ 64 }
-    ensures took { (events : List Event) → StandsFor engine.old events
-        → AfterEvent engine.old.schema engine.old.queries line engine.new event.now events result }
-    ensures cursors { OnOk result (KeepsCursors engine.old engine.new) }
-    ensures counted { OnOk result (count_of engine.new ≡ count_of engine.old + 1) }
-    ensures unchanged { OnErr result (engine.new ≡ engine.old) }
-    ensures same { SameQueries engine.old engine.new }
-    ensures steps { OnOk result (steps.new ≤ steps.old + update_bounds engine.new) }
-{
-    match engine.see(event, steps) {
-        Ok(_) => Ok(()),
-        Err(SeeFault::TimeBack { query, before, now }) => {
-            Err(OrMemory::Fault(EventFault::TimeBack { query, before, now }))
-        }
-        Err(SeeFault::Memory) => Err(OrMemory::Memory),
     }
 }

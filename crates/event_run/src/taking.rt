@@ -4,7 +4,7 @@ ghost use Rattle.std.specs.Prelude.{◌≡◌, ◌+◌, ◌^◌, ◌<◌, ◌≤
 ghost use Rattle.stream_schema.specs.declared.Event.{Event};
 ghost use Rattle.stream_schema.specs.Events.{IsOfSchema};
 ghost use Rattle.query_engine.specs.Bounds.{update_bound};
-ghost use Rattle.query_engine.specs.Engine.{StandsFor, count_of, found_of, len_of, SameQueries, update_bounds};
+ghost use Rattle.query_engine.specs.Engine.{StandsFor, count_of, found_of, len_of, KeepsCursors, SameQueries, update_bounds};
 ghost use Rattle.query_engine.specs.Keys.{HasAddedKeys};
 ghost use Rattle.query_engine.specs.Windows.{HasAdded};
 ghost use Rattle.cer_base.specs.Answers.{OnFault};
@@ -144,6 +144,7 @@ pub fn give_event<L: Ledger>(
     requires room { count_of engine.old + 1 < 2 ^ 64 }
     ensures took { (events : List Event) → StandsFor engine.old events
         → AfterEvent engine.old.schema engine.old.queries line engine.new event.now events result }
+    ensures cursors { OnOk result (KeepsCursors engine.old engine.new) }
     ensures counted { OnOk result (count_of engine.new ≡ count_of engine.old + 1) }
     ensures growth { OnOk result ((query : ℕ) → len_of engine.new query
         ≤ len_of engine.old query + update_bound (found_of engine.new query)) }

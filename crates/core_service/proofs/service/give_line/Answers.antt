@@ -12,7 +12,7 @@ returns-in-Ok-clause-given g c =
       record {
         event = c.event.result.now;
         read = is;
-        same = c.see_event.ensures.same;
+        same = c.give_event.ensures.same;
         in_time = λ events stands. (c.in-Ok.ensures.took events stands).1;
         stands = λ events stands. (c.in-Ok.ensures.took events stands).0;
         count = c.in-Ok.ensures.counted;

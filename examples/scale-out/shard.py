@@ -8,6 +8,8 @@ from bisect import bisect_left
 sys.path.insert(0, os.path.join(os.path.dirname(os.path.abspath(__file__)), "..", "library"))
 import core  # noqa: E402
 
+BLOCKS_A_COMPACTION = 10
+
 
 class Shard:
     """Answers the rules for its keys. Its calls come one after another.
@@ -38,6 +40,8 @@ class Shard:
             raise RuntimeError(f"block {number} came, and {self.blocks} is the next")
         answers = self.answers(block)
         self.blocks += 1
+        if self.blocks % BLOCKS_A_COMPACTION == 0:
+            self.engine.compact()
         return answers
 
     def answers(self, block):
@@ -59,7 +63,7 @@ class Shard:
 
     def checkpoint(self):
         """Gives what is to be kept outside of this process: how many blocks were taken, and the lines of
-        the events that a later answer may reach. The engine gives up what no window reaches any more.
+        the events that a later answer may reach. Of the others the shard forgets the lines.
 
         Which events these are is asked of the program's `save`, which is proved to keep exactly those in
         the window of the last event of some rule that reads them, and all that a rule without one reads.
@@ -69,5 +73,4 @@ class Shard:
         # After the head's two lines come two for each event: `at N`, and its own.
         kept = [int(line[3:]) for line in saved.splitlines()[2::2]]
         self.positions, self.lines = [self.positions[at] for at in kept], [self.lines[at] for at in kept]
-        self.engine.compact()
         return self.blocks, b"".join(self.lines)

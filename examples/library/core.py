@@ -14,6 +14,7 @@ engine are to be made on the thread that opened it.
 import ctypes
 import os
 from collections import namedtuple
+from operator import methodcaller
 
 OK, NONE, ROOM, QUERY, EVENT, MEMORY, MISUSE = range(7)
 VERSION = 1
@@ -91,6 +92,17 @@ def _bytes(text):
     return text.encode() if isinstance(text, str) else bytes(text)
 
 
+def _joined(lines):
+    """The lines as bytes, with a line feed behind each; None where they are not all of one form."""
+    nothing, line_feed = ("", "\n") if isinstance(lines[0], str) else (b"", b"\n")
+    try:
+        between = nothing if all(map(methodcaller("endswith", line_feed), lines)) else line_feed
+        text = between.join(lines) + between
+    except (AttributeError, TypeError):
+        return None
+    return _bytes(text) if text.count(line_feed) == len(lines) else None
+
+
 class Engine:
     """An engine for the queries of a text. It is closed at the end of its `with`, or by close()."""
 
@@ -155,7 +167,15 @@ class Engine:
                 return
 
     def feed_lines(self, lines):
-        """Feeds the lines, a call for each, and gives the answers as they come."""
+        """Feeds the lines, and gives the answers as they come.
+
+        The lines of a list or tuple are fed many a call, if each has a line feed at its end or none has one;
+        other lines a call for each, as they come.
+        """
+        data = _joined(lines) if isinstance(lines, (list, tuple)) and lines else None
+        if data is not None:
+            yield from self.feed_bytes(data)
+            return
         for line in lines:
             if self.feed(_bytes(line).rstrip(b"\n")):
                 yield from self.answers()

@@ -9,7 +9,7 @@ use cer_base::Memory;
 use smallvec::SmallVec;
 use std::alloc::Global;
 use std::marker::Model;
-use std::rc::Rc;
+use std::sync::Arc;
 
 /// So many rows are kept, fewer than `NO_ROW`.
 const KEPT_ROWS: usize = 64;
@@ -27,7 +27,7 @@ pub enum Effect {
     Stays,
     /// The start has no successor, and each state has one of these alone, in order, not marked. None
     /// of them stands twice.
-    Moves(Rc<Vec<State>>),
+    Moves(Arc<Vec<State>>),
     /// Anything.
     Changes,
 }

@@ -14,7 +14,7 @@ use cea_determinise::table::{EventClass, State, Successors};
 use cer_base::Memory;
 use cer_base::steps::Steps;
 use smallvec::SmallVec;
-use std::rc::Rc;
+use std::sync::Arc;
 use std::sync::ledger::Ledger;
 
 /// A number below `ROW_NUMBERS` for the states and the class, the same for the same ones.
@@ -91,7 +91,7 @@ fn effect_of(active: &ActiveStates, moves: &[Successors]) -> Result<Effect, Memo
     }
     match find_targets(alloc, moves)? {
         None => Ok(Effect::Changes),
-        Some(targets) => match Rc::new(alloc, targets) {
+        Some(targets) => match Arc::new(alloc, targets) {
             Ok(shared) => Ok(Effect::Moves(shared)),
             Err(_) => Err(Memory),
         },

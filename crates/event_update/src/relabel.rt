@@ -11,12 +11,12 @@ use cea_determinise::table::{State, Successors};
 use cer_base::Memory;
 use std::alloc::Global;
 use std::marker::Model;
-use std::rc::Rc;
+use std::sync::Arc;
 
 /// A state for each list, in the order of the lists: where the list goes. None stands twice.
 #[derive(Drop)]
 pub struct Targets {
-    states: Rc<Vec<State>>,
+    states: Arc<Vec<State>>,
 }
 
 impl Model for Targets {
@@ -32,7 +32,7 @@ impl Model for Targets {
 
 impl Targets {
     /// These states, of which none stands twice. It takes no memory.
-    pub fn of(states: Rc<Vec<State>>) -> Targets
+    pub fn of(states: Arc<Vec<State>>) -> Targets
         requires { IsDistinct nat_eq states.value.items }
         ensures { result ≡ states.value.items }
     {

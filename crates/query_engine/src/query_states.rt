@@ -10,14 +10,14 @@ use cer_base::Memory;
 use cer_base::seed::Seed;
 use query_state::QueryState;
 use std::alloc::Global;
-use std::rc::Rc;
+use std::sync::Arc;
 use stream_schema::Schema;
 
 /// A copy of the schema that all query states share.
-pub fn shared(alloc: Global, schema: &Schema) -> Result<Rc<Schema>, Memory>
+pub fn shared(alloc: Global, schema: &Schema) -> Result<Arc<Schema>, Memory>
     ensures { IfOk result (λ shared. shared.value ≡ schema.now) }
 {
-    match Rc::new(alloc, schema.copy(alloc)?) {
+    match Arc::new(alloc, schema.copy(alloc)?) {
         Ok(shared) => Ok(shared),
         Err(_) => Err(Memory),
     }
@@ -28,7 +28,7 @@ fn add_query_state(
     query_states: &mut Vec<QueryState>,
     alloc: Global,
     seed: Seed,
-    schema: &Rc<Schema>,
+    schema: &Arc<Schema>,
     query: Query,
 ) -> Result<(), Memory>
     requires checked { IsChecked schema.now.value query }
@@ -47,7 +47,7 @@ pub fn add_query_states(
     query_states: &mut Vec<QueryState>,
     alloc: Global,
     seed: Seed,
-    schema: &Rc<Schema>,
+    schema: &Arc<Schema>,
     queries: Vec<Query>,
 ) -> Result<(), Memory>
     requires checked { All (IsChecked schema.now.value) queries.items }

@@ -6,12 +6,12 @@ use crate::Test;
 use cer_base::Memory;
 use std::alloc::Global;
 use std::marker::Model;
-use std::rc::Rc;
+use std::sync::Arc;
 
 /// Tests, seen as the list of them. A share of them takes no memory for the tests.
 #[derive(Drop)]
 pub struct Tests {
-    list: Rc<Vec<Test>>,
+    list: Arc<Vec<Test>>,
 }
 
 impl Model for Tests {
@@ -32,7 +32,7 @@ impl Tests {
     pub fn of(alloc: Global, list: Vec<Test>) -> Result<Tests, Memory>
         ensures { IfOk result (λ tests. tests ≡ list.items) }
     {
-        match Rc::new(alloc, list) {
+        match Arc::new(alloc, list) {
             Ok(list) => Ok(Tests { list }),
             Err(_) => Err(Memory),
         }
@@ -57,6 +57,11 @@ impl Tests {
     /// Whether these are the very same ones as the others, of which one is then a share. Where they are
     /// not, they may be alike all the same.
     pub fn is_shared_with(&self, other: &Tests) -> bool {
-        Rc::ptr_eq(&self.list, &other.list)
+        // a share more of these is one more of the others where they are the same ones
+        let before = Arc::strong_count(&other.list);
+        match Arc::try_clone(&self.list) {
+            Ok(_share) => Arc::strong_count(&other.list) != before,
+            Err(_) => false,
+        }
     }
 }

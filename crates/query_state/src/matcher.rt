@@ -23,7 +23,7 @@ use cer_base::seed::Seed;
 use event_update::dormancy::is_skip_insensitive;
 use query_leaves::{Leaves, leaves_of};
 use std::alloc::Global;
-use std::rc::Rc;
+use std::sync::Arc;
 use stream_schema::Schema;
 use window_clock::Clock;
 
@@ -31,8 +31,8 @@ use window_clock::Clock;
 #[derive(Drop)]
 pub struct Reading {
     pub clock: Clock,
-    pub types: Rc<Vec<bool>>,
-    pub keys: Rc<Vec<Option<Places>>>,
+    pub types: Arc<Vec<bool>>,
+    pub keys: Arc<Vec<Option<Places>>>,
     /// Whether the query has no partition.
     pub whole: bool,
 }

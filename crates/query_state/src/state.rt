@@ -31,7 +31,8 @@ use cer_base::time::{LowTime, Time};
 use cer_base::{Memory, Pos};
 use std::alloc::Global;
 use std::marker::Model;
-use std::rc::Rc;
+use std::ops::Deref;
+use std::sync::Arc;
 use std::sync::ledger::Ledger;
 use stream_schema::{Event, Schema, TypeId};
 use tecs_enumerate::Cursor;
@@ -66,9 +67,9 @@ pub struct QueryState {
     /// The number of that event's key, where it may have an answer.
     here: Option<u64>,
     /// For each type the places of the partition's attributes. Queries with the same ones share them.
-    keys: Rc<Vec<Option<Places>>>,
+    keys: Arc<Vec<Option<Places>>>,
     /// For each type whether the query reads it. Queries over the same streams share it.
-    types: Rc<Vec<bool>>,
+    types: Arc<Vec<bool>>,
     /// Where its clock is read, and how wide its window is. It sees no event.
     clock: Clock,
     step: Option<Step>,
@@ -83,7 +84,7 @@ pub struct QueryState {
     first: Bits,
     query: Query,
     /// The engine's schema, which all query states share.
-    schema: Rc<Schema>,
+    schema: Arc<Schema>,
 }
 
 impl Model for QueryState {
@@ -114,7 +115,7 @@ impl Model for QueryState {
 /// The query state with these tables, before any event.
 fn joined(
     alloc: Global,
-    schema: Rc<Schema>,
+    schema: Arc<Schema>,
     query: Query,
     reading: Reading,
     matcher: Matcher,
@@ -161,7 +162,7 @@ impl QueryState {
     pub fn new(
         alloc: Global,
         seed: Seed,
-        schema: &Rc<Schema>,
+        schema: &Arc<Schema>,
         query: Query,
         others: &[QueryState],
     ) -> Result<QueryState, Memory>
@@ -173,7 +174,7 @@ impl QueryState {
         ensures none { IfOk result (λ p. p.kept.nodes ≡ []) }
         ensures stands { IfOk result (StandsAt []) }
     {
-        let declared = schema.as_ref();
+        let declared = schema.deref();
         declared.well_declared();
         let reading = Reading::of(alloc, declared, &query, others)?;
         let matcher = Matcher::of(alloc, seed, declared, &query)?;
@@ -189,7 +190,7 @@ impl QueryState {
     }
 
     /// For each type whether the query reads it.
-    pub fn types(&self) -> Result<Rc<Vec<bool>>, Memory>
+    pub fn types(&self) -> Result<Arc<Vec<bool>>, Memory>
         ensures { IfOk result (λ table. AreTypesRead self.now.schema self.now.query
             table.value.items) }
     {
@@ -197,7 +198,7 @@ impl QueryState {
     }
 
     /// For each type the places of the partition's attributes.
-    pub fn keys(&self) -> Result<Rc<Vec<Option<Places>>>, Memory>
+    pub fn keys(&self) -> Result<Arc<Vec<Option<Places>>>, Memory>
         ensures { IfOk result (λ table. AreKeyPlaces self.now.schema self.now.query
             table.value.items) }
     {
@@ -244,11 +245,9 @@ impl QueryState {
         requires schema { other.now.schema ≡ self.now.schema }
         ensures { result ≡ true → ShareClock self.now.schema self.now.query other.now.query }
     {
-        self.schema.as_ref().well_declared();
-        same_types(
-            self.types.as_ref().as_slice(),
-            other.types.as_ref().as_slice(),
-        ) && self.clock.reads_as(&other.clock)
+        self.schema.deref().well_declared();
+        same_types(self.types.as_slice(), other.types.as_slice())
+            && self.clock.reads_as(&other.clock)
     }
 
     /// Whether it reads the events of the type.
@@ -256,7 +255,7 @@ impl QueryState {
         requires { ty < length self.now.schema.types }
         ensures { result ≡ reads_type self.now.schema self.now.query ty }
     {
-        is_read(self.types.as_ref().as_slice(), ty)
+        is_read(self.types.as_slice(), ty)
     }
 
     /// Whether a cursor that is opened after so many events may give an answer: whether the last
@@ -415,7 +414,7 @@ impl Participant for QueryState {
         leaves: &Bits,
         steps: &mut Steps<L>,
     ) -> Result<bool, Memory> {
-        if !is_read(self.types.as_ref().as_slice(), event.ty) {
+        if !is_read(self.types.as_slice(), event.ty) {
             if self.upto <= position {
                 return Ok(true);
             }
@@ -423,7 +422,7 @@ impl Participant for QueryState {
             return Ok(false);
         }
         let bits = leaves_for(reads, leaves, &self.no_leaves);
-        let table = self.keys.as_ref().as_slice();
+        let table = self.keys.as_slice();
         let (alloc, whole, skip_insensitive) = (self.alloc, self.whole, self.skip_insensitive);
         let own = look(
             &self.matches,

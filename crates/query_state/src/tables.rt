@@ -12,7 +12,7 @@ use crate::types::types_read;
 use cel_terms::{Name, Query, Window};
 use cer_base::Memory;
 use std::alloc::Global;
-use std::rc::Rc;
+use std::sync::Arc;
 use stream_schema::Schema;
 use window_clock::Clock;
 
@@ -49,10 +49,10 @@ fn on_one_attribute(one: &Window, other: &Window) -> bool
 }
 
 /// The table, to be shared.
-fn shared<T: Drop>(alloc: Global, table: Vec<T>) -> Result<Rc<Vec<T>>, Memory>
+fn shared<T: Drop>(alloc: Global, table: Vec<T>) -> Result<Arc<Vec<T>>, Memory>
     ensures { IfOk result (λ rc. rc.value.items ≡ table.items) }
 {
-    match Rc::new(alloc, table) {
+    match Arc::new(alloc, table) {
         Ok(rc) => Ok(rc),
         Err(_) => Err(Memory),
     }
@@ -65,7 +65,7 @@ pub fn types_of(
     schema: &Schema,
     query: &Query,
     others: &[QueryState],
-) -> Result<Rc<Vec<bool>>, Memory>
+) -> Result<Arc<Vec<bool>>, Memory>
     requires { All (λ p. p.schema ≡ schema.now) others.now }
     ensures { IfOk result (λ table. AreTypesRead schema.now query.now table.value.items) }
 {
@@ -85,7 +85,7 @@ pub fn keys_of(
     schema: &Schema,
     query: &Query,
     others: &[QueryState],
-) -> Result<Rc<Vec<Option<Places>>>, Memory>
+) -> Result<Arc<Vec<Option<Places>>>, Memory>
     requires { All (λ p. p.schema ≡ schema.now) others.now }
     ensures { IfOk result (λ table. AreKeyPlaces schema.now query.now table.value.items) }
 {

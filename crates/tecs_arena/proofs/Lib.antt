@@ -6,3 +6,5 @@ pub mod Sharing
 pub mod Chunks
 -- the nodes of an arena are what its first places hold
 pub mod Filled
+-- which parts of a block may go to another thread
+pub mod Crossing

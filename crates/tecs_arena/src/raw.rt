@@ -11,7 +11,7 @@ ghost use Rattle.tecs_arena.specs.Chunks.{IsFilled};
 ghost use Rattle.tecs_arena.specs.Ownership.{cells_own, cells_lent, deed_owns};
 
 use std::alloc::{AllocError, Allocator};
-use std::marker::{Model, PhantomData};
+use std::marker::{Model, PhantomData, Send};
 use std::mem::{align_of, size_of};
 
 /// Where a block begins. It owns nothing.
@@ -31,6 +31,9 @@ impl<T> Clone for Start<T> {
 
 impl<T> Copy for Start<T> {}
 
+// It owns nothing.
+unsafe impl<T> Send for Start<T> {}
+
 /// The places of a block, seen one by one: what each holds, if it was written. It takes no bytes.
 pub(crate) struct Places<T> {
     mark: PhantomData<*const T>,
@@ -43,6 +46,9 @@ impl<T> Model for Places<T> {
 
     ghost also_shares = { λ c _ κ. cells_lent T.row c.at c.slots κ };
 }
+
+// They go to another thread as what they hold may.
+unsafe impl<T: Send> Send for Places<T> {}
 
 /// The right to give the block of `len` places back to its allocator. It takes no bytes.
 pub(crate) struct Deed<T, A: Allocator> {
@@ -57,6 +63,9 @@ impl<T, A: Allocator> Model for Deed<T, A> {
 
     ghost also_shares = { λ _ _ _. ftrue };
 }
+
+// It goes to another thread where a block may be given back there.
+unsafe impl<T, A: Allocator + Send> Send for Deed<T, A> {}
 
 /// Makes a block of `len` empty places.
 pub(crate) fn make<T, A: Allocator>(

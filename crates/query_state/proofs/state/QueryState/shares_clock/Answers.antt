@@ -11,10 +11,10 @@ use Rattle.query_state.proofs.state.QueryState.shares_clock.Goals as goal
 
 pub returns-then-same_types : goal.returns-then-same_types
 returns-then-same_types c told =
-    let well = subst IsWellDeclared c.as_ref.ensures c.well_declared.ensures in
+    let well = subst IsWellDeclared c.deref.ensures c.well_declared.ensures in
     let schema : c.other.inside.schema.value ≡ c.self.inside.schema.value = ap (λ (p : Phase). p.schema) c.other.view_is ∙ (c.requires.schema ∙ sym (ap (λ (p : Phase). p.schema) c.self.view_is)) in
     let items : Vec Bool Global → List Bool = λ v. v.items in
-    let same = sym (c.as_slice.ensures.value ∙ ap items c.as_ref-2.ensures) ∙ (c.same_types.ensures c.if-same_types.true ∙ (c.as_slice-2.ensures.value ∙ ap items c.as_ref-3.ensures)) in
+    let same = sym (c.as_slice.ensures.value ∙ ap items c.deref-2.ensures) ∙ (c.same_types.ensures c.if-same_types.true ∙ (c.as_slice-2.ensures.value ∙ ap items c.deref-3.ensures)) in
     let shared = shares c.self.inside.schema.value c.self.inside.query c.other.inside.query c.self.inside.types.value.items c.other.inside.types.value.items c.self.inside.clock.source c.other.inside.clock.source well
     c.self.invariant.0.types (subst (λ (s : Declared). AreTypesRead s c.other.inside.query c.other.inside.types.value.items) schema c.other.invariant.0.types)
     c.self.invariant.0.clock (subst (λ (s : Declared). IsOf s c.other.inside.query.window c.other.inside.clock.source) schema c.other.invariant.0.clock) same (c.reads_as.ensures told) in

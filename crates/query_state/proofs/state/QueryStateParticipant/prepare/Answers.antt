@@ -70,7 +70,7 @@ pub returns-then-self-position-2-clause-no_op : goal.returns-then-self-position-
 returns-then-self-position-2-clause-no_op g c =
     let f = facts c.self.inside.schema.value c.self.inside.query c.args.event.now c.args.position c.self.inside.step c.self.inside.ready c.self.inside.sizes c.self.inside.matches c.self.inside.here c.self.inside.upto c.args.self.now c.self.view_is c.requires.idle c.requires.can in
     let bits_are = (own_leaves c.self.inside.schema.value c.self.inside.query c.self.inside.types.value.items c.self.inside.keys.value.items c.self.inside.clock.source c.args.event.now c.args.position c.self.inside.step c.self.inside.ready c.self.inside.sizes c.self.inside.matches c.self.inside.here c.self.inside.upto c.args.self.now c.args.reads c.args.leaves.now c.self.inside.no_leaves c.leaves_for-bits.result.now c.self.view_is c.self.invariant.0 c.requires.read c.requires.unread c.leaves_for-bits.ensures.told c.leaves_for-bits.ensures.none).are in
-    let stays = subst (λ (t : List (Option (List ℕ))). Stays c.self.inside.matches (key_there t c.args.event.now) c.self.inside.first c.leaves_for-bits.result.now c.self.inside.skip_insensitive) (c.as_slice-table.ensures.value ∙ ap (λ (v : Vec (Option (List ℕ)) Global). v.items) c.as_ref-2.ensures)
+    let stays = subst (λ (t : List (Option (List ℕ))). Stays c.self.inside.matches (key_there t c.args.event.now) c.self.inside.first c.leaves_for-bits.result.now c.self.inside.skip_insensitive) (c.as_slice-table.ensures.value ∙ ap (λ (v : Vec (Option (List ℕ)) Global). v.items) c.deref-2.ensures)
     (subst (λ (o : Own). IsOwn o c.self.inside.matches c.as_slice-table.result.now c.args.event.now c.self.inside.first c.leaves_for-bits.result.now c.self.inside.skip_insensitive) c.in-NoOp.is c.look-own.ensures) in
     let told : slice_index_or c.self.inside.types.value.items c.args.event.now.ty false ≡ true = search rules in
     let does = does_read c.self.inside.schema.value c.self.inside.query c.self.inside.types.value.items c.args.event.now c.self.invariant.0.types f.of_schema told in
@@ -105,7 +105,7 @@ returns-in-Err-clause-within g c =
     let clock = now_is c.self.inside.schema.value c.self.inside.query.window c.self.inside.clock.source c.args.event.now c.args.position c.now-clock.result (to_z w128 (of_z w128 c.now-clock.result)) c.self.invariant.0.clock c.now-clock.ensures.clock same in
     let bits_are = (own_leaves c.self.inside.schema.value c.self.inside.query c.self.inside.types.value.items c.self.inside.keys.value.items c.self.inside.clock.source c.args.event.now c.args.position c.self.inside.step c.self.inside.ready c.self.inside.sizes c.self.inside.matches c.self.inside.here c.self.inside.upto c.args.self.now c.args.reads c.args.leaves.now c.self.inside.no_leaves c.leaves_for-bits.result.now c.self.view_is c.self.invariant.0 c.requires.read c.requires.unread c.leaves_for-bits.ensures.told c.leaves_for-bits.ensures.none).are in
     own_within c.self.inside.schema.value c.self.inside.query c.self.inside.keys.value.items c.leaves_for-bits.result.now c.args.event.now c.args.position c.self.inside.matches (here_at c.self.inside.upto c.args.position c.self.inside.here) (phase_at c.args.position c.args.self.now) (to_z w128 (of_z w128 c.now-clock.result)) c.args.steps.now c.advance_own.new.steps i c.self.invariant.0.keys f.of_schema does clock bits_are
-    (subst (λ (t : List (Option (List ℕ))). (c.advance_own.new.steps ≡ c.args.steps.now) ⊎ HasOwnWorked c.leaves_for-bits.result.now (key_there t c.args.event.now) c.self.inside.matches c.args.steps.now c.advance_own.new.steps) (c.as_slice-table.ensures.value ∙ ap (λ (v : Vec (Option (List ℕ)) Global). v.items) c.as_ref-2.ensures) c.advance_own.ensures.worked)
+    (subst (λ (t : List (Option (List ℕ))). (c.advance_own.new.steps ≡ c.args.steps.now) ⊎ HasOwnWorked c.leaves_for-bits.result.now (key_there t c.args.event.now) c.self.inside.matches c.args.steps.now c.advance_own.new.steps) (c.as_slice-table.ensures.value ∙ ap (λ (v : Vec (Option (List ℕ)) Global). v.items) c.deref-2.ensures) c.advance_own.ensures.worked)
 
 pub returns-in-Ok-Some-clause-within : goal.returns-in-Ok-Some-clause-within
 returns-in-Ok-Some-clause-within g c =
@@ -118,7 +118,7 @@ returns-in-Ok-Some-clause-within g c =
     let clock = now_is c.self.inside.schema.value c.self.inside.query.window c.self.inside.clock.source c.args.event.now c.args.position c.now-clock.result (to_z w128 (of_z w128 c.now-clock.result)) c.self.invariant.0.clock c.now-clock.ensures.clock same in
     let bits_are = (own_leaves c.self.inside.schema.value c.self.inside.query c.self.inside.types.value.items c.self.inside.keys.value.items c.self.inside.clock.source c.args.event.now c.args.position c.self.inside.step c.self.inside.ready c.self.inside.sizes c.self.inside.matches c.self.inside.here c.self.inside.upto c.args.self.now c.args.reads c.args.leaves.now c.self.inside.no_leaves c.leaves_for-bits.result.now c.self.view_is c.self.invariant.0 c.requires.read c.requires.unread c.leaves_for-bits.ensures.told c.leaves_for-bits.ensures.none).are in
     own_within c.self.inside.schema.value c.self.inside.query c.self.inside.keys.value.items c.leaves_for-bits.result.now c.args.event.now c.args.position c.self.inside.matches (here_at c.self.inside.upto c.args.position c.self.inside.here) (phase_at c.args.position c.args.self.now) (to_z w128 (of_z w128 c.now-clock.result)) c.args.steps.now c.advance_own.new.steps i c.self.invariant.0.keys f.of_schema does clock bits_are
-    (subst (λ (t : List (Option (List ℕ))). (c.advance_own.new.steps ≡ c.args.steps.now) ⊎ HasOwnWorked c.leaves_for-bits.result.now (key_there t c.args.event.now) c.self.inside.matches c.args.steps.now c.advance_own.new.steps) (c.as_slice-table.ensures.value ∙ ap (λ (v : Vec (Option (List ℕ)) Global). v.items) c.as_ref-2.ensures) c.advance_own.ensures.worked)
+    (subst (λ (t : List (Option (List ℕ))). (c.advance_own.new.steps ≡ c.args.steps.now) ⊎ HasOwnWorked c.leaves_for-bits.result.now (key_there t c.args.event.now) c.self.inside.matches c.args.steps.now c.advance_own.new.steps) (c.as_slice-table.ensures.value ∙ ap (λ (v : Vec (Option (List ℕ)) Global). v.items) c.deref-2.ensures) c.advance_own.ensures.worked)
 
 pub returns-else-self-position-3-clause-ready : goal.returns-else-self-position-3-clause-ready
 returns-else-self-position-3-clause-ready g c =
@@ -130,7 +130,7 @@ returns-else-self-position-3-clause-ready g c =
     let clock = now_is c.self.inside.schema.value c.self.inside.query.window c.self.inside.clock.source c.args.event.now c.args.position c.now-clock.result (to_z w128 (of_z w128 c.now-clock.result)) c.self.invariant.0.clock c.now-clock.ensures.clock same in
     let bits_are = (own_leaves c.self.inside.schema.value c.self.inside.query c.self.inside.types.value.items c.self.inside.keys.value.items c.self.inside.clock.source c.args.event.now c.args.position c.self.inside.step c.self.inside.ready c.self.inside.sizes c.self.inside.matches c.self.inside.here c.self.inside.upto c.args.self.now c.args.reads c.args.leaves.now c.self.inside.no_leaves c.leaves_for-bits.result.now c.self.view_is c.self.invariant.0 c.requires.read c.requires.unread c.leaves_for-bits.ensures.told c.leaves_for-bits.ensures.none).are in
     let kept = at_none ((c.advance_own.new.matches ≡ c.self.inside.matches) × (c.advance_own.new.steps ≡ c.args.steps.now) × Stays c.self.inside.matches (key_there c.as_slice-table.result.now c.args.event.now) c.self.inside.first c.leaves_for-bits.result.now c.self.inside.skip_insensitive) c.in-Ok-None.field-0 c.in-Ok-None.field-0-is c.in-Ok-None.ensures.stays in
-    let stays = subst (λ (t : List (Option (List ℕ))). Stays c.self.inside.matches (key_there t c.args.event.now) c.self.inside.first c.leaves_for-bits.result.now c.self.inside.skip_insensitive) (c.as_slice-table.ensures.value ∙ ap (λ (v : Vec (Option (List ℕ)) Global). v.items) c.as_ref-2.ensures) kept.2 in
+    let stays = subst (λ (t : List (Option (List ℕ))). Stays c.self.inside.matches (key_there t c.args.event.now) c.self.inside.first c.leaves_for-bits.result.now c.self.inside.skip_insensitive) (c.as_slice-table.ensures.value ∙ ap (λ (v : Vec (Option (List ℕ)) Global). v.items) c.deref-2.ensures) kept.2 in
     λ by. subst (λ h. IsStep c.self.inside.schema.value c.self.inside.query c.args.event.now c.args.position (query_state_of h None (here_at c.self.inside.upto c.args.position c.self.inside.here)) (query_state_of h None None)) (sym kept.0) (stays_step c.self.inside.schema.value c.self.inside.query c.self.inside.keys.value.items c.self.inside.first c.leaves_for-bits.result.now c.self.inside.skip_insensitive c.args.event.now c.args.position c.self.inside.matches (here_at c.self.inside.upto c.args.position c.self.inside.here) (to_z w128 (of_z w128 c.now-clock.result)) c.self.invariant.0.keys f.of_schema does clock bits_are c.self.invariant.3 c.self.invariant.2 stays)
 
 pub returns-in-Ok-Some-clause-ready : goal.returns-in-Ok-Some-clause-ready
@@ -147,7 +147,7 @@ returns-in-Ok-Some-clause-ready g c =
     let small_low : SFits w128 c.low_of.result = search rules in
     let low_is : c.of-low.result ≡ low_of c.self.inside.query.window (to_z w128 (of_z w128 c.now-clock.result)) = c.of-low.ensures ∙ to_z-of_z _ _ small_low ∙ c.low_of.ensures ∙ c.self.invariant.0.clock.low (to_z w128 (of_z w128 c.now-clock.result)) in
     let recent : c.of-low.result ≤ℤ low_of c.self.inside.query.window (to_z w128 (of_z w128 c.now-clock.result)) = omega (arith, ints, low_is) in
-    let own = subst (λ (t : List (Option (List ℕ))). IsOwnReady (record { pos = c.args.position; clock = to_z w128 (of_z w128 c.now-clock.result) }) c.of-low.result c.leaves_for-bits.result.now (key_there t c.args.event.now) c.in-Ok-Some.ready.number c.in-Ok-Some.ready.staged c.self.inside.matches c.advance_own.new.matches) (c.as_slice-table.ensures.value ∙ ap (λ (v : Vec (Option (List ℕ)) Global). v.items) c.as_ref-2.ensures) r in
+    let own = subst (λ (t : List (Option (List ℕ))). IsOwnReady (record { pos = c.args.position; clock = to_z w128 (of_z w128 c.now-clock.result) }) c.of-low.result c.leaves_for-bits.result.now (key_there t c.args.event.now) c.in-Ok-Some.ready.number c.in-Ok-Some.ready.staged c.self.inside.matches c.advance_own.new.matches) (c.as_slice-table.ensures.value ∙ ap (λ (v : Vec (Option (List ℕ)) Global). v.items) c.deref-2.ensures) r in
     λ by. subst (λ h. IsStep c.self.inside.schema.value c.self.inside.query c.args.event.now c.args.position (query_state_of h None (here_at c.self.inside.upto c.args.position c.self.inside.here)) (query_state_of (put_in c.in-Ok-Some.ready.number c.in-Ok-Some.ready.staged c.advance_own.new.matches) None (Some c.in-Ok-Some.ready.number))) (sym m.0)
     (ready_step c.self.inside.schema.value c.self.inside.query c.self.inside.keys.value.items c.of-low.result c.leaves_for-bits.result.now c.args.event.now c.args.position c.in-Ok-Some.ready.number c.in-Ok-Some.ready.staged c.self.inside.matches c.advance_own.new.matches (here_at c.self.inside.upto c.args.position c.self.inside.here) (to_z w128 (of_z w128 c.now-clock.result)) c.self.invariant.0.keys f.of_schema does clock bits_are recent own)
 
@@ -200,7 +200,7 @@ returns-then-self-position-3-clause-no_op g c =
     let does = does_read c.self.inside.schema.value c.self.inside.query c.self.inside.types.value.items c.args.event.now c.self.invariant.0.types f.of_schema told in
     let bits_are = (own_leaves c.self.inside.schema.value c.self.inside.query c.self.inside.types.value.items c.self.inside.keys.value.items c.self.inside.clock.source c.args.event.now c.args.position c.self.inside.step c.self.inside.ready c.self.inside.sizes c.self.inside.matches c.self.inside.here c.self.inside.upto c.args.self.now c.args.reads c.args.leaves.now c.self.inside.no_leaves c.leaves_for-bits.result.now c.self.view_is c.self.invariant.0 c.requires.read c.requires.unread c.leaves_for-bits.ensures.told c.leaves_for-bits.ensures.none).are in
     let kept = at_none ((c.advance_own.new.matches ≡ c.self.inside.matches) × (c.advance_own.new.steps ≡ c.args.steps.now) × Stays c.self.inside.matches (key_there c.as_slice-table.result.now c.args.event.now) c.self.inside.first c.leaves_for-bits.result.now c.self.inside.skip_insensitive) c.in-Ok-None.field-0 c.in-Ok-None.field-0-is c.in-Ok-None.ensures.stays in
-    let stays = subst (λ (t : List (Option (List ℕ))). Stays c.self.inside.matches (key_there t c.args.event.now) c.self.inside.first c.leaves_for-bits.result.now c.self.inside.skip_insensitive) (c.as_slice-table.ensures.value ∙ ap (λ (v : Vec (Option (List ℕ)) Global). v.items) c.as_ref-2.ensures) kept.2 in
+    let stays = subst (λ (t : List (Option (List ℕ))). Stays c.self.inside.matches (key_there t c.args.event.now) c.self.inside.first c.leaves_for-bits.result.now c.self.inside.skip_insensitive) (c.as_slice-table.ensures.value ∙ ap (λ (v : Vec (Option (List ℕ)) Global). v.items) c.deref-2.ensures) kept.2 in
     let le : c.self.inside.upto ≤ c.args.position = search rules in
     λ by. subst (λ (p : Phase). IsNoOpFor c.args.event.now c.args.position (phase_at c.args.position p) (phase_at (c.args.position + 1) p)) (idle_fields c.self.inside.schema.value c.self.inside.query c.self.inside.step c.self.inside.ready c.self.inside.sizes c.self.inside.matches c.self.inside.here c.self.inside.upto c.args.self.now c.self.view_is c.requires.idle ∙ sym (as_it_was c.self.inside.schema.value c.self.inside.query c.self.inside.step c.self.inside.ready c.self.inside.sizes c.advance_own.new.sizes c.self.inside.matches c.advance_own.new.matches c.self.inside.here c.self.inside.upto c.args.self.now c.self.view_is c.requires.idle kept.0))
     (stays_pass c.self.inside.schema.value c.self.inside.query c.self.inside.keys.value.items c.self.inside.first c.leaves_for-bits.result.now c.self.inside.skip_insensitive c.args.event.now c.args.position c.self.inside.matches c.self.inside.here c.self.inside.upto (have_times c.self.inside.schema.value c.self.inside.query c.self.inside.clock.source c.self.invariant.0.clocks c.self.invariant.0.clock) le c.self.invariant.0.keys f.of_schema does bits_are c.self.invariant.3 c.self.invariant.2 stays)

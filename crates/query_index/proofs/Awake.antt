@@ -1,26 +1,25 @@
 -- Rows that are looked at: those that wait for nothing, or for a query that may have an open match.
-use Rattle.std.proofs.Common.{◌≡◌, refl, sym, ap, subst, ◌∙◌, ℕ, ◌+◌, ◌<◌, ◌≤◌, ◌⊎◌, inl, inr, Bool, true, false, ◌||◌, eqb, if◌then◌else◌, List, [], ◌∷◌, ◌++◌, length, map, take, filter, Some, slice_get, slice_index_or, Contains, All, arith}
+use Rattle.std.proofs.Common.{◌≡◌, refl, sym, ap, subst, ◌∙◌, ℕ, ◌+◌, ◌<◌, ◌≤◌, ◌⊎◌, inl, inr, Bool, true, false, ◌||◌, eqb, if◌then◌else◌, List, [], ◌∷◌, ◌++◌, length, take, slice_index_or, Contains, arith}
 use Rattle.std.proofs.lemmas.Bool.{false≢true}
 use Rattle.std.proofs.lemmas.List.Elements.{filter-append, Contains-push, Contains-push_cases, Contains-append_left, Contains-append_right, Contains-append_cases}
 use Rattle.std.proofs.lemmas.List.{take_more, take_all}
 use Rattle.cer_base.specs.Bits.{has}
 use Rattle.stream_schema.specs.declared.Event.{Event}
-use Rattle.query_leaves.specs.Shapes.{each_holds}
 use Rattle.predicate_bits.specs.Ranges.{AsksFor}
 use Rattle.query_index.specs.declared.rows.LeafRow.{LeafRow}
 use Rattle.query_index.specs.declared.rows.IndexedLeaf.{IndexedLeaf}
 use Rattle.query_index.specs.declared.rows.TheConstants.{NONE}
 use Rattle.query_index.specs.declared.index.Index.{Index}
 use Rattle.query_index.specs.TextPrefilters.{AsksToOpen}
-use Rattle.query_index.specs.Rows.{Table, IsRowOf, IsRowBelow, AreBelow, IsListed, HaveReader, HasLeaf, AreReaders, WaitAlike, is_awake, awake, Marks}
+use Rattle.query_index.specs.Rows.{Table, IsRowOf, IsRowBelow, AreBelow, HaveReader, AreReaders, WaitAlike, is_awake, awake, Marks}
 use Rattle.query_index.specs.Index.{gathered, AreIndexes, Suffice}
 use Rattle.query_index.proofs.Listed.{marks_more, marks_past}
 use Rattle.query_index.proofs.Indexed.{gathered_push, marks_sufficed, same_suffice}
 
-awake_first : (open_queries : List Bool) (row : LeafRow) (rows : List LeafRow) → is_awake open_queries row ≡ true → awake open_queries (row ∷ rows) ≡ row ∷ awake open_queries rows
+pub awake_first : (open_queries : List Bool) (row : LeafRow) (rows : List LeafRow) → is_awake open_queries row ≡ true → awake open_queries (row ∷ rows) ≡ row ∷ awake open_queries rows
 awake_first open_queries row rows is = ap (λ b. if b then row ∷ awake open_queries rows else awake open_queries rows) is
 
-asleep_first : (open_queries : List Bool) (row : LeafRow) (rows : List LeafRow) → is_awake open_queries row ≡ false → awake open_queries (row ∷ rows) ≡ awake open_queries rows
+pub asleep_first : (open_queries : List Bool) (row : LeafRow) (rows : List LeafRow) → is_awake open_queries row ≡ false → awake open_queries (row ∷ rows) ≡ awake open_queries rows
 asleep_first open_queries row rows is = ap (λ b. if b then row ∷ awake open_queries rows else awake open_queries rows) is
 
 first_or_later : (r : LeafRow) (rows : List LeafRow) (row : LeafRow) → Contains (r ∷ rows) row → (r ≡ row) ⊎ Contains rows row

@@ -1,5 +1,5 @@
 -- Rows that are put into buckets, and looked at by them.
-use Rattle.std.proofs.Common.{◌≡◌, refl, sym, ap, subst, ◌∙◌, ℕ, zero, suc, ◌+◌, ◌<◌, ◌≤◌, inl, inr, ℤ, ◌≤ℤ◌, Bool, false, List, [], ◌∷◌, ◌++◌, length, map, take, Some, Result, Ok, Err, IfOk, Vec, slice_get, slice_index_or, Contains, All, arith}
+use Rattle.std.proofs.Common.{◌≡◌, refl, sym, ap, subst, ◌∙◌, ℕ, zero, suc, ◌+◌, ◌<◌, ◌≤◌, inl, inr, ℤ, ◌≤ℤ◌, Bool, false, List, [], ◌∷◌, ◌++◌, length, length-drop, map, take, drop, Some, Result, Ok, Err, IfOk, Vec, slice_get, slice_index_or, Contains, All, arith}
 use Rattle.std.specs.declared.alloc.Global.{Global}
 use Rattle.std.proofs.lemmas.Bool.{false≢true, cases_lt}
 use Rattle.std.proofs.lemmas.List.Elements.{All-push, Contains-append_left, Contains-append_right, Contains-append_cases, Contains-push, Contains-push_cases, Contains-get_or}
@@ -16,9 +16,12 @@ use Rattle.query_index.specs.declared.rows.LeafRow.{LeafRow}
 use Rattle.query_index.specs.declared.rows.IndexedLeaf.{IndexedLeaf}
 use Rattle.query_index.specs.declared.buckets.Bucket.{Bucket}
 use Rattle.query_index.specs.declared.index.Index.{Index}
+use Rattle.query_index.specs.SharedTests.{AreSharing}
 use Rattle.query_index.specs.Rows.{rows_of, IsRowBelow, HaveReader, HaveRoom, Marks}
 use Rattle.query_index.proofs.Listed.{room_within, marks_more}
-use Rattle.query_index.specs.Index.{IsBucket, AreBuckets, IsIndex, gathered, HaveSame, AreSplit, AreIndexes, indexes_of, AreIndexed, Suffice}
+use Rattle.query_index.specs.declared.shared_tests.SharingRow.{SharingRow}
+use Rattle.query_index.specs.declared.shared_tests.SharedTests.{SharedTests}
+use Rattle.query_index.specs.Index.{IsBucket, AreBuckets, AreShared, IsIndex, gathered, HaveSame, HasTaken, AreSplit, AreIndexes, indexes_of, AreIndexed, Suffice}
 
 -- a leaf whose tests hold of no such event
 pub apart_from : (leaves : List IndexedLeaf) (k : ℕ) (found leaf : IndexedLeaf) (read : List Test) (event : Event) → Some found ≡ slice_get leaves k → read ≡ found.tests → each_holds read event ≡ false → slice_get leaves k ≡ Some leaf → each_holds leaf.tests event ≡ false
@@ -213,7 +216,7 @@ suffice_in leaves index buckets k bucket event v number some is same at there nu
     at_index = subst (λ bs. slice_get bs k ≡ Some bucket) same at
 
     here : IsBucket index.rows.items leaves index.place index.kind bucket
-    here = subst (IsBucket index.rows.items leaves index.place index.kind) (get_or_from_slice_get index.buckets.items k bucket bucket at_index) (is k bucket (slice_get_within index.buckets.items k bucket at_index))
+    here = subst (IsBucket index.rows.items leaves index.place index.kind) (get_or_from_slice_get index.buckets.items k bucket bucket at_index) (is.buckets k bucket (slice_get_within index.buckets.items k bucket at_index))
 
 -- and so do all of them
 pub suffice_all : (leaves : List IndexedLeaf) (list some : List LeafRow) (event : Event) → some ≡ list → Suffice leaves list event some
@@ -285,3 +288,92 @@ few_below indexes k x leaves event few count room inside is each h below same = 
 
 pub few_room : (indexes : List Index) (k : ℕ) (x : Index) (leaves : List IndexedLeaf) (event : Event) (few : List LeafRow) (had have : List (List Bool)) → k < length indexes → x ≡ slice_index_or indexes k x → All (IsIndex leaves) indexes → ((ls : List IndexedLeaf) → IsIndex ls x → Suffice ls x.rows.items event few) → map (λ (s : List Bool). length s) have ≡ map (λ (s : List Bool). length s) had → HaveRoom (gathered indexes) leaves event had → HaveRoom few leaves event have
 few_room indexes k x leaves event few had have inside is each h same room = room_within (gathered indexes) few leaves event had have (λ r i. in_gathered indexes k x inside r ((index_suffices indexes k x leaves event few inside is each h).within r i)) same room
+
+-- a run of no rows tells nothing
+pub nothing_told : (leaves : List IndexedLeaf) (rows : List LeafRow) (shared : SharedTests) → shared.rows.items ≡ [] → AreShared leaves rows shared
+nothing_told leaves rows shared none some = absurd (let n = ap (λ (xs : List SharingRow). length xs) none in omega arith)
+
+-- the index of one run more
+pub run_put : (indexes new : List Index) (index : Index) (rows : List LeafRow) → new ≡ indexes ++ index ∷ [] → index.rows.items ≡ rows → gathered new ≡ gathered indexes ++ rows
+run_put indexes new index rows put is = ap (λ xs. gathered xs) put ∙ (gathered_push indexes index ∙ ap (λ xs. gathered indexes ++ xs) is)
+
+-- the rows of a run, which are the first ones
+pub run_taken : (leaves : List IndexedLeaf) (rows : List LeafRow) (count : ℕ) (old new : List Index) (plain : List LeafRow) (shared : SharedTests) → 0 < count → count ≤ length rows → gathered new ≡ gathered old ++ take count rows → (AreShared leaves (take count rows) shared → All (IsIndex leaves) old → All (IsIndex leaves) new) → AreSharing leaves (take count rows) shared → HasTaken leaves rows count old new plain plain
+run_taken leaves rows count old new plain shared some inside put each are = record {
+  some = some;
+  inside = inside;
+  same = λ list h. subst (λ xs. HaveSame (list ++ take count rows) (xs ++ plain)) (sym put) (record {
+    within = λ r i. elim (Contains-append_cases (gathered old ++ take count rows) plain r i) [
+      | inl early ↦ elim (Contains-append_cases (gathered old) (take count rows) r early) [
+        | inl was ↦ Contains-append_left list (take count rows) r (h.within r (Contains-append_left (gathered old) plain r was))
+        | inr one ↦ Contains-append_right list (take count rows) r one
+      ]
+      | inr late ↦ Contains-append_left list (take count rows) r (h.within r (Contains-append_right (gathered old) plain r late))
+    ];
+    each = λ r i. elim (Contains-append_cases list (take count rows) r i) [
+      | inl was ↦ elim (Contains-append_cases (gathered old) plain r (h.each r was)) [
+        | inl early ↦ Contains-append_left (gathered old ++ take count rows) plain r (Contains-append_left (gathered old) (take count rows) r early)
+        | inr late ↦ Contains-append_right (gathered old ++ take count rows) plain r late
+      ]
+      | inr one ↦ Contains-append_left (gathered old ++ take count rows) plain r (Contains-append_right (gathered old) (take count rows) r one)
+    ];
+  });
+  each = each (λ some_told. are);
+}
+
+-- rows that stand in no run
+pub plain_taken : (leaves : List IndexedLeaf) (rows : List LeafRow) (count : ℕ) (indexes : List Index) (had have : List LeafRow) → 0 < count → count ≤ length rows → have ≡ had ++ take count rows → HasTaken leaves rows count indexes indexes had have
+plain_taken leaves rows count indexes had have some inside put = record {
+  some = some;
+  inside = inside;
+  same = λ list h. subst (λ xs. HaveSame (list ++ take count rows) (gathered indexes ++ xs)) (sym put) (record {
+    within = λ r i. elim (Contains-append_cases (gathered indexes) (had ++ take count rows) r i) [
+      | inl early ↦ Contains-append_left list (take count rows) r (h.within r (Contains-append_left (gathered indexes) had r early))
+      | inr late ↦ elim (Contains-append_cases had (take count rows) r late) [
+        | inl was ↦ Contains-append_left list (take count rows) r (h.within r (Contains-append_right (gathered indexes) had r was))
+        | inr one ↦ Contains-append_right list (take count rows) r one
+      ]
+    ];
+    each = λ r i. elim (Contains-append_cases list (take count rows) r i) [
+      | inl was ↦ elim (Contains-append_cases (gathered indexes) had r (h.each r was)) [
+        | inl early ↦ Contains-append_left (gathered indexes) (had ++ take count rows) r early
+        | inr late ↦ Contains-append_right (gathered indexes) (had ++ take count rows) r (Contains-append_left had (take count rows) r late)
+      ]
+      | inr one ↦ Contains-append_right (gathered indexes) (had ++ take count rows) r (Contains-append_right had (take count rows) r one)
+    ];
+  });
+  each = λ all. all;
+}
+
+-- more of the rows are taken
+take_further : (rows : List LeafRow) (from count : ℕ) → take (from + count) rows ≡ take from rows ++ take count (drop from rows)
+take_further rows zero count =
+    let none : zero + count ≡ count = omega arith in
+    ap (λ n. take n rows) none
+take_further [] (suc from) count = nothing (suc from + count) ∙ sym (nothing count)
+  where
+    none : List LeafRow
+    none = []
+
+    nothing : (n : ℕ) → take n none ≡ none
+    nothing zero = refl
+    nothing (suc n) = refl
+take_further (r ∷ rows) (suc from) count =
+    let more : suc from + count ≡ suc (from + count) = omega arith in
+    ap (λ n. take n (r ∷ rows)) more ∙ ap (λ xs. r ∷ xs) (take_further rows from count)
+
+pub taken_further : (leaves : List IndexedLeaf) (rows rest : List LeafRow) (from count : ℕ) (first old new : List Index) (had have : List LeafRow) → rest ≡ drop from rows → from ≤ length rows → HasTaken leaves rest count old new had have → HaveSame (gathered first ++ take from rows) (gathered old ++ had) → (from + count ≤ length rows) × HaveSame (gathered first ++ take (from + count) rows) (gathered new ++ have)
+taken_further leaves rows rest from count first old new had have is within h same = (
+  (let a = subst (λ (xs : List LeafRow). count ≤ length xs) is h.inside in let b = length-drop from rows in omega arith),
+  subst (λ xs. HaveSame (gathered first ++ xs) (gathered new ++ have)) (sym (take_further rows from count))
+      (subst (λ xs. HaveSame xs (gathered new ++ have)) (bracket (gathered first) (take from rows) (take count (drop from rows)))
+      (subst (λ xs. HaveSame ((gathered first ++ take from rows) ++ take count xs) (gathered new ++ have)) is (h.same (gathered first ++ take from rows) same))),
+)
+  where
+    bracket : (xs ys zs : List LeafRow) → (xs ++ ys) ++ zs ≡ xs ++ (ys ++ zs)
+    bracket [] ys zs = refl
+    bracket (x ∷ xs) ys zs = ap (λ ws. x ∷ ws) (bracket xs ys zs)
+
+-- and all of them
+pub same_through : (list rows mid : List LeafRow) → HaveSame mid rows → HaveSame list mid → HaveSame list rows
+same_through list rows mid one h = record { within = λ r i. h.within r (one.within r i); each = λ r i. one.each r (h.each r i) }

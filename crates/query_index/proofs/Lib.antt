@@ -10,3 +10,7 @@ mod Opened
 mod Awake
 -- runs of numbers, and pieces of rows
 mod Covered
+-- tests that rows have in common, and the words that tell of them
+mod TestWords
+-- what the rows of a run mark
+mod SharedRows

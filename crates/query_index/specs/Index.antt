@@ -1,5 +1,5 @@
 -- Rows by the values that an event may have at a place.
-use Rattle.std.specs.Prelude.{◌≡◌, ℕ, ◌⊎◌, ◌≤ℤ◌, false, List, [], ◌∷◌, ◌++◌, All, map, Some, Vec, Contains, slice_get, slice_index_or}
+use Rattle.std.specs.Prelude.{◌≡◌, ℕ, ◌<◌, ◌≤◌, ◌⊎◌, ◌≤ℤ◌, Bool, false, List, [], ◌∷◌, ◌++◌, All, length, map, take, Some, Vec, Contains, slice_get, slice_index_or}
 use Rattle.std.specs.declared.alloc.Global.{Global}
 use Rattle.stream_schema.specs.declared.Kind.{Kind}
 use Rattle.stream_schema.specs.declared.Event.{Event}
@@ -10,6 +10,9 @@ use Rattle.query_index.specs.declared.rows.LeafRow.{LeafRow}
 use Rattle.query_index.specs.declared.rows.IndexedLeaf.{IndexedLeaf}
 use Rattle.query_index.specs.declared.buckets.Bucket.{Bucket}
 use Rattle.query_index.specs.declared.index.Index.{Index}
+use Rattle.query_index.specs.declared.shared_tests.SharedTests.{SharedTests}
+use Rattle.query_index.specs.SharedTests.{AreSharing}
+use Rattle.query_index.specs.Rows.{IsRowBelow, HaveRoom}
 
 -- the tests of the row's leaf do not hold of the event
 abbrev pub ReadsNot : List IndexedLeaf → Event → LeafRow → Type 0
@@ -37,9 +40,14 @@ IsBucket list leaves place kind bucket = AreRowsOver list leaves place (record {
 abbrev pub AreBuckets : List LeafRow → List IndexedLeaf → ℕ → Kind → List Bucket → Type 0
 AreBuckets list leaves place kind buckets = All (IsBucket list leaves place kind) buckets
 
--- each bucket has those of the index's rows that may concern such an event
-abbrev pub IsIndex : List IndexedLeaf → Index → Type 0
-IsIndex leaves index = AreBuckets index.rows.items leaves index.place index.kind index.buckets.items
+-- where there is something, it tells the leaf's tests of each of the rows
+abbrev pub AreShared : List IndexedLeaf → List LeafRow → SharedTests → Type 0
+AreShared leaves rows shared = 0 < length shared.rows.items → AreSharing leaves rows shared
+
+-- Each bucket has those of the index's rows that may concern such an event, and what the rows share are their leaves' tests.
+pub record IsIndex (leaves : List IndexedLeaf) (index : Index) : Type 0 where
+  pub buckets : AreBuckets index.rows.items leaves index.place index.kind index.buckets.items
+  pub shared : AreShared leaves index.rows.items index.shared
 
 -- the rows of all of the indexes
 abbrev pub gathered : List Index → List LeafRow
@@ -50,6 +58,13 @@ gathered (index ∷ indexes) = index.rows.items ++ gathered indexes
 pub record HaveSame (list rows : List LeafRow) : Type 0 where
   pub within : (r : LeafRow) → Contains rows r → Contains list r
   pub each : (r : LeafRow) → Contains list r → Contains rows r
+
+-- The first so many rows are put into the indexes, or to those that have none.
+pub record HasTaken (leaves : List IndexedLeaf) (rows : List LeafRow) (count : ℕ) (old new : List Index) (had have : List LeafRow) : Type 0 where
+  pub some : 0 < count
+  pub inside : count ≤ length rows
+  pub same : (list : List LeafRow) → HaveSame list (gathered old ++ had) → HaveSame (list ++ take count rows) (gathered new ++ have)
+  pub each : All (IsIndex leaves) old → All (IsIndex leaves) new
 
 -- The rows of the list are parted in two.
 pub record AreSplit (list taken left : List LeafRow) : Type 0 where
@@ -74,3 +89,10 @@ AreIndexed leaves rows indexes = (ty : ℕ) → AreIndexes leaves (slice_index_o
 pub record Suffice (leaves : List IndexedLeaf) (list : List LeafRow) (event : Event) (some : List LeafRow) : Type 0 where
   pub within : (r : LeafRow) → Contains some r → Contains list r
   pub others : (r : LeafRow) → Contains list r → Contains some r ⊎ ReadsNot leaves event r
+
+-- There are leaves of which these are rows that share tests, and the sets have room for them.
+pub record CanMark (index : Index) (event : Event) (into : List Bool) (sets : List (List Bool)) : Type 0 where
+  pub leaves : List IndexedLeaf
+  pub sharing : AreSharing leaves index.rows.items index.shared
+  pub below : All (IsRowBelow (length into) leaves) index.rows.items
+  pub room : HaveRoom index.rows.items leaves event sets

@@ -10,12 +10,14 @@ ghost use Rattle.std.specs.Option.{option_copied};
 ghost use Rattle.query_index.specs.declared.rows.LeafRow.{LeafRow as RowData};
 ghost use Rattle.query_index.specs.declared.rows.IndexedLeaf.{IndexedLeaf as IndexedLeafData};
 ghost use Rattle.query_index.specs.Rows.{rows_of};
-ghost use Rattle.query_index.specs.Index.{IsIndex, AreIndexes, AreIndexed, AreSplit, HaveSame, Suffice, gathered, indexes_of as listed};
+ghost use Rattle.query_index.specs.Index.{IsIndex, AreShared, AreIndexes, AreIndexed, AreSplit, HaveSame, Suffice, gathered, indexes_of as listed};
 
 use crate::buckets::{Bucket, buckets_of};
 use crate::choosing::{chosen, homes_left, is_served};
 use crate::parting::{Parting, span_of};
 use crate::rows::{IndexedLeaf, LeafRow};
+use crate::shared_tests::{SharedTests, nothing_shared};
+use crate::sharing::{put_runs, shared_by};
 use cer_base::Memory;
 use predicate_bits::holding::value_at;
 use predicate_bits::spans::number_of;
@@ -23,7 +25,7 @@ use std::alloc::Global;
 use stream_schema::{Attr, Event, Kind, Schema, TypeId};
 
 /// Rows by the value at a place.
-#[derive(Drop, Debug)]
+#[derive(Drop)]
 pub struct Index {
     /// The place of the values in an event, and their kind.
     pub place: u64,
@@ -35,6 +37,8 @@ pub struct Index {
     pub buckets: Vec<Bucket>,
     /// All rows of the index.
     pub rows: Vec<LeafRow>,
+    /// The tests that they have in common, where all of them are one run. Else there is nothing here.
+    pub shared: SharedTests,
 }
 
 /// Rows that are parted in two.
@@ -55,6 +59,7 @@ fn index_of(
     ensures rows { IfOk result (λ index. index.rows.items ≡ rows.items) }
 {
     let buckets = buckets_of(alloc, rows.as_slice(), leaves, parting)?;
+    let shared = shared_by(alloc, rows.as_slice(), leaves)?;
     Ok(Index {
         place: parting.place,
         kind: parting.kind,
@@ -62,12 +67,14 @@ fn index_of(
         shift: parting.shift,
         buckets,
         rows,
+        shared,
     })
 }
 
 /// An index without buckets.
-fn without_buckets(alloc: Global, rows: Vec<LeafRow>) -> Index
-    ensures index { (leaves : List IndexedLeafData) → IsIndex leaves result }
+pub fn without_buckets(alloc: Global, rows: Vec<LeafRow>, shared: SharedTests) -> Index
+    ensures index { (leaves : List IndexedLeafData) → AreShared leaves rows.items shared
+        → IsIndex leaves result }
     ensures rows { result.rows.items ≡ rows.items }
 {
     Index {
@@ -77,6 +84,7 @@ fn without_buckets(alloc: Global, rows: Vec<LeafRow>) -> Index
         shift: 0,
         buckets: Vec::new(alloc),
         rows,
+        shared,
     }
 }
 
@@ -110,7 +118,7 @@ fn with_rest(alloc: Global, indexes: Vec<Index>, left: Vec<LeafRow>) -> Result<V
         return Ok(indexes);
     }
     let mut all = indexes;
-    all.push(without_buckets(alloc, left))?;
+    all.push(without_buckets(alloc, left, nothing_shared(alloc)))?;
     Ok(all)
 }
 
@@ -134,7 +142,8 @@ fn indexes_over(
         indexes.push(index_of(alloc, parts.taken, leaves, &partings[k])?)?;
         left = parts.left;
     }
-    with_rest(alloc, indexes, left)
+    let plain = put_runs(&mut indexes, alloc, left.as_slice(), leaves)?;
+    with_rest(alloc, indexes, plain)
 }
 
 /// The indexes of the rows of the type.

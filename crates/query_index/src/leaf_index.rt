@@ -1,17 +1,24 @@
 //! The leaves of all queries, and which queries an event can concern.
 
-ghost use Rattle.std.specs.Prelude.{◌≡◌, ◌≢◌, ℕ, ◌<◌, ◌≤◌, ◌==◌, ◌⊎◌, Bool, true, false, ◌&&◌, ◌||◌, [], ◌∷◌, length, map, slice_get, slice_index_or, Some, IfOk, All};
+ghost use Rattle.std.specs.Prelude.{◌≡◌, ◌≢◌, ℕ, ◌<◌, ◌≤◌, ◌==◌, ◌⊎◌, Bool, true, false, ◌&&◌, ◌||◌, List, [], ◌∷◌, length, map, slice_get, slice_index_or, Some, IfOk, All};
 ghost use Rattle.std.specs.Option.{option_copied};
 ghost use Rattle.cer_base.specs.Bits.{has};
 ghost use Rattle.stream_schema.specs.declared.Event.{Event as EventData};
 ghost use Rattle.query_leaves.specs.Shapes.{each_holds as tests_hold};
 ghost use Rattle.predicate_bits.specs.Ranges.{AsksFor};
 ghost use Rattle.query_index.specs.TextPrefilters.{AsksToOpen};
-ghost use Rattle.query_index.specs.Index.{IsIndex, Suffice, gathered};
+ghost use Rattle.query_index.specs.declared.rows.LeafRow.{LeafRow as RowData};
+ghost use Rattle.query_index.specs.declared.rows.IndexedLeaf.{IndexedLeaf as IndexedLeafData};
+ghost use Rattle.query_index.specs.declared.rows.TheConstants.{NONE};
+ghost use Rattle.query_index.specs.declared.shared_tests.SharedTest.{SharedTest as SharedTestData};
+ghost use Rattle.query_index.specs.Index.{IsIndex, CanMark, Suffice, gathered};
+ghost use Rattle.query_index.specs.SharedTests.{IsSharing, AreSharing, HasFailing, IsMet, HasOneFailing, HasPlace};
 ghost use Rattle.query_index.specs.Rows.{rows_of, awake, is_awake, AreBelow, AreExact, AreWaiting, IsRangeOf, IsRowBelow, IsLeafIndex, HasRow, AreReaders, HaveRoom, HaveRooms, WaitAlike, Marks};
 
 use crate::index::{Index, few_of, indexes_of};
-use crate::rows::{IndexedLeaf, LeafRow, add_query, is_awake};
+use crate::rows::{IndexedLeaf, LeafRow, add_query, is_awake, waits_no_more};
+use crate::shared_tests::{SharingRow, failing_of, is_met};
+use crate::sharing::FEWEST_ROWS;
 use crate::text_prefilters::may_open;
 use cel_terms::Query;
 use cer_base::Memory;
@@ -22,6 +29,9 @@ use predicate_bits::ranges::{Range, may_hold};
 use std::alloc::Global;
 use std::marker::Model;
 use stream_schema::{Event, Schema, TypeId};
+
+/// About how many rows of a run are looked at in the time of a row by itself.
+const ROWS_OF_ONE: usize = 8;
 
 /// What is looked at of the leaves of queries, which have numbers from 0.
 #[derive(Drop)]
@@ -237,6 +247,89 @@ fn mark_rows(
     }
 }
 
+/// Whether the row is looked at, and no test of its leaf fails.
+#[inline(always)]
+fn reads(row: &SharingRow, failing: u64, open_queries: &Bits) -> bool
+    ensures yes { result ≡ true → ((row.now.waits == NONE) || has open_queries.now row.now.waits
+        ≡ true) × IsMet row.now.mask failing }
+    ensures not { result ≡ false → ((row.now.waits == NONE) || has open_queries.now row.now.waits
+        ≡ false) ⊎ HasOneFailing row.now.mask failing }
+{
+    waits_no_more(row.waits, open_queries) && is_met(row, failing)
+}
+
+/// Puts in the numbers of the row's query and of its leaf, if the row is looked at and no test of its leaf
+/// fails.
+#[inline(always)]
+fn mark_sharing(
+    row: &SharingRow,
+    failing: u64,
+    open_queries: &Bits,
+    into: &mut Bits,
+    sets: &mut [Bits],
+)
+    requires { IsMet row.now.mask failing → HasPlace row.now into.old sets.old }
+    ensures { (leaves : List IndexedLeafData) (tests : List SharedTestData) (r : RowData)
+        (event : EventData) → IsSharing leaves tests r row.now → HasFailing tests failing event
+        → Marks (awake open_queries.now (r ∷ [])) leaves event into.old into.new sets.old
+        sets.new }
+{
+    if reads(row, failing, open_queries) {
+        put_in(row.query as usize, row.number as usize, into, sets);
+    }
+}
+
+/// Puts in the numbers of the query and of the leaf of each row of the run that is looked at, if the leaf's
+/// tests hold of the event. Each test is made once.
+fn mark_run(index: &Index, event: &Event, open_queries: &Bits, into: &mut Bits, sets: &mut [Bits])
+    requires { CanMark index.now event.now into.old sets.old }
+    ensures { (leaves : List IndexedLeafData) → AreSharing leaves index.now.rows.items
+        index.now.shared → Marks (awake open_queries.now index.now.rows.items) leaves event.now
+        into.old into.new sets.old sets.new }
+{
+    let failing = failing_of(index.shared.tests.as_slice(), event);
+    for row in index.shared.rows.as_slice() {
+        mark_sharing(row, failing, open_queries, into, sets);
+    }
+}
+
+/// Whether the index is a run, and so many of its rows are better looked at by the tests of the run.
+#[inline(always)]
+fn is_run_for(index: &Index, count: usize) -> bool
+    ensures { result ≡ true → 0 < length index.now.shared.rows.items }
+{
+    if count < FEWEST_ROWS {
+        return false;
+    }
+    let rows = index.shared.rows.len();
+    rows > 0 && rows / ROWS_OF_ONE <= count
+}
+
+/// Puts in the numbers of the query and of the leaf of each row of the index that is looked at, if the
+/// leaf's tests hold of the event.
+#[inline(always)]
+fn mark_index(
+    index: &Index,
+    leaves: &[IndexedLeaf],
+    event: &Event,
+    open_queries: &Bits,
+    into: &mut Bits,
+    sets: &mut [Bits],
+)
+    requires index { IsIndex leaves.now index.now }
+    requires below { All (IsRowBelow (length into.old) leaves.now) index.now.rows.items }
+    requires room { HaveRoom index.now.rows.items leaves.now event.now sets.old }
+    ensures { Marks (awake open_queries.now index.now.rows.items) leaves.now event.now into.old
+        into.new sets.old sets.new }
+{
+    let few = few_of(index, event);
+    if is_run_for(index, few.len()) {
+        mark_run(index, event, open_queries, into, sets);
+        return;
+    }
+    mark_rows(few, leaves, event, open_queries, into, sets);
+}
+
 /// Puts in the numbers of the query and of the leaf of each row of the indexes that is looked at, if the
 /// leaf's tests hold of the event.
 #[inline(always)]
@@ -255,13 +348,6 @@ fn mark_indexed(
         into.new sets.old sets.new }
 {
     for index in indexes {
-        mark_rows(
-            few_of(index, event),
-            leaves,
-            event,
-            open_queries,
-            into,
-            sets,
-        );
+        mark_index(index, leaves, event, open_queries, into, sets);
     }
 }

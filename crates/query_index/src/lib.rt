@@ -17,6 +17,8 @@ mod marks;
 mod parting;
 mod rows;
 mod runs;
+mod shared_tests;
+mod sharing;
 mod text_prefilters;
 
 pub use leaf_index::LeafIndex;

@@ -33,12 +33,20 @@ pub struct LeafRow {
     pub waits: u64,
 }
 
+/// Whether a row that waits for this is looked at where the queries in the set may have an open match.
+#[inline(always)]
+pub fn waits_no_more(waits: u64, open_queries: &Bits) -> bool
+    ensures { result ≡ (waits == NONE) || has open_queries.now waits }
+{
+    waits == NONE || open_queries.contains(waits as usize)
+}
+
 /// Whether the row is looked at where the queries in the set may have an open match.
 #[inline(always)]
 pub fn is_awake(row: &LeafRow, open_queries: &Bits) -> bool
     ensures { result ≡ is_awake open_queries.now row.now }
 {
-    row.waits == NONE || open_queries.contains(row.waits as usize)
+    waits_no_more(row.waits, open_queries)
 }
 
 /// What is looked at of a leaf where its row lets an event through.

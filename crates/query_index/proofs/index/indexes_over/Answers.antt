@@ -1,5 +1,5 @@
-use Rattle.std.proofs.Common.{subst}
-use Rattle.query_index.specs.Index.{AreSplit}
+use Rattle.std.proofs.Common.{◌++◌, sym, subst}
+use Rattle.query_index.specs.Index.{AreSplit, HaveSame, gathered}
 use Rattle.query_index.proofs.Indexed.{same_next, each_next, rest_told}
 use Rattle.query_index.proofs.index.indexes_over.Goals as goal
 
@@ -10,4 +10,4 @@ loop-k-preserved c = record {
 }
 
 pub returns : goal.returns
-returns c = rest_told c.with_rest.result c.args.leaves.now c.args.rows.now c.loop-k.indexes.items c.loop-k.left.items c.loop-k.invariant.each c.loop-k.invariant.rows c.with_rest.ensures
+returns c = rest_told c.with_rest.result c.args.leaves.now c.args.rows.now c.put_runs.new.indexes.items c.in_ok-plain.plain.items (c.in_ok-plain.ensures.each c.loop-k.invariant.each) (c.in_ok-plain.ensures.rows c.args.rows.now (subst (λ xs. HaveSame c.args.rows.now (gathered c.loop-k.indexes.items ++ xs)) (sym c.as_slice-2.ensures.value) c.loop-k.invariant.rows)) c.with_rest.ensures

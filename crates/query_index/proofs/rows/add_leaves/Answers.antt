@@ -1,4 +1,4 @@
-use Rattle.std.proofs.Common.{◌≡◌, ℕ, ◌+◌, ◌-◌, ◌∷◌, [], length, subst, arith}
+use Rattle.std.proofs.Common.{◌≡◌, ◌+◌, ◌-◌, ◌∷◌, [], length, subst, arith}
 use Rattle.query_index.specs.Rows.{rows_of, waits_for, HasAdded, HasLeafRow}
 use Rattle.query_index.proofs.Listed.{rows_next, added_more}
 use Rattle.query_index.proofs.rows.add_leaves.Goals as goal

@@ -1,4 +1,4 @@
-use Rattle.std.proofs.Common.{◌+◌, sym, subst, true, ◌∙◌, take}
+use Rattle.std.proofs.Common.{◌+◌, sym, subst, ◌∙◌, take}
 use Rattle.std.proofs.lemmas.List.{take_all}
 use Rattle.query_index.specs.Rows.{HaveTypes}
 use Rattle.query_index.proofs.Listed.{types_next, types_past}

@@ -1,14 +1,14 @@
 -- Queries that are compacted as they grow: what is put by for that, and how much is kept of each.
-use Rattle.std.proofs.Common.{◌≡◌, ℕ, zero, suc, ◌+◌, ◌-◌, ◌*◌, ◌≤◌, List, [], ◌∷◌, ◌++◌, length, Option, Some, None, sym, ap, subst, ◌∙◌, arith, length-append}
+use Rattle.std.proofs.Common.{◌≡◌, ℕ, zero, suc, ◌+◌, ◌-◌, ◌*◌, ◌<◌, ◌≤◌, ◌⊎◌, inl, inr, List, [], ◌∷◌, ◌++◌, length, Option, Some, None, sym, ap, subst, ◌∙◌, arith, length-append}
 use Rattle.std.proofs.Math.Nat.{mul-le-mul_right}
 use Rattle.stream_schema.specs.declared.Event.{Event}
 use Rattle.cel_terms.specs.declared.Query.{Query}
 use Rattle.query_engine.specs.declared.sizes.Size.{Size}
 use Rattle.query_engine.specs.Bounds.{update_bound, for_each_query}
 use Rattle.query_engine.specs.Counts.{MeetMost, event_bound, compaction_bound}
-use Rattle.query_engine.specs.Engine.{EngineState, StandsFor, SameQueries, found_of}
+use Rattle.query_engine.specs.Engine.{EngineState, Open, StandsFor, SameQueries, found_of}
 use Rattle.query_engine.specs.Keys.{HasAddedKeys}
-use Rattle.query_engine.specs.Sizes.{steady_bound, AreTended, AreKeptSmall}
+use Rattle.query_engine.specs.Sizes.{steady_bound, AreTended, AreKeptSmall, IsCompactedNow, IsLeftAlone}
 use Rattle.query_engine.specs.Windows.{HasAdded}
 use Rattle.query_engine.proofs.Counting.{each_at_most, each_of_both}
 use Rattle.query_engine.proofs.SmallSizes.{event_puts_by, event_keeps_small, tending_keeps_small}
@@ -80,6 +80,19 @@ goes_on plan old new events event same added keys t =
       next = subst (λ (qs : List Query). plan.next ≤ plan.looked + events_before_look (length qs)) (sym same.1) g.next;
       small = event_keeps_small old new plan.bases events event LEAST_SIZE plan.looked behind same added keys g.small;
     }
+
+-- what is left alone under a lower limit may be so under a higher one
+still_small : (size least more twice : ℕ) → least ≤ more → (size < least) ⊎ (size < twice) → (size < more) ⊎ (size < twice)
+still_small size least more twice within (inl less) = inl (omega arith)
+still_small size least more twice within (inr less) = inr less
+
+still_alone : (least more : ℕ) (old new : EngineState) (events : List Event) (held : List Open) (before after : List Size) (k : ℕ) (q : Query) → least ≤ more → IsCompactedNow new events held after k q ⊎ IsLeftAlone least old new before after k →
+    IsCompactedNow new events held after k q ⊎ IsLeftAlone more old new before after k
+still_alone least more old new events held before after k q within (inl now) = inl now
+still_alone least more old new events held before after k q within (inr alone) = inr (record { noted = alone.noted; same = alone.same; small = still_small _ _ _ _ within alone.small })
+
+pub tended_by_more : (least more : ℕ) (old new : EngineState) (events : List Event) (held : List Open) (before after : List Size) → least ≤ more → AreTended least old new events held before after → AreTended more old new events held before after
+tended_by_more least more old new events held before after within tended k q there = still_alone least more old new events held before after k q within (tended k q there)
 
 -- the queries were looked at
 pub looked_at : (plan now : Plan) (old new : EngineState) (events : List Event) → SameQueries old new → ((query : ℕ) → found_of new query ≡ found_of old query) → AreTended LEAST_SIZE old new events [] plan.bases now.bases →

@@ -19,8 +19,14 @@ use std::alloc::Global;
 use std::marker::Model;
 use std::sync::ledger::Ledger;
 
-/// A query that weighs less is not compacted by itself: so many nodes, or keys as eight of them each.
+/// A query that weighs less is not compacted by itself: so many nodes, or keys as eight of them each, ..
 pub const LEAST_SIZE: u64 = 256;
+
+/// .. and fewer where the queries are many, so that all of them that are small weigh so much together, ..
+const SMALL_TOGETHER: u64 = 8192;
+
+/// .. but so much each, since what a compaction takes beside the nodes would cost more than it saves.
+const FEWEST_NODES: u64 = 64;
 
 /// The queries are looked at after so many events for each of them, ..
 pub const EVENTS_A_QUERY: u64 = 2;
@@ -287,7 +293,7 @@ impl Schedule {
             + put_by engine.new self.new.bases ≤ steps.old + put_by engine.old self.old.bases }
     {
         let bases = self.bases.as_mut_slice();
-        engine.compact_grown(LEAST_SIZE, bases, &mut [], steps)?;
+        engine.compact_grown(least_size(engine.queries()), bases, &mut [], steps)?;
         self.looked = engine.events();
         self.next = next_look(self.looked, engine.queries());
         Ok(())
@@ -347,10 +353,19 @@ fn tend<L: Ledger>(
     ensures steps { (events : List Event) → StandsFor engine.old events → steps.new
         + put_by engine.new bases.new ≤ steps.old + put_by engine.old bases.old }
 {
-    match engine.compact_grown(LEAST_SIZE, bases, held, steps) {
+    match engine.compact_grown(least_size(engine.queries()), bases, held, steps) {
         Ok(()) => {}
         Err(_) => {}
     }
+}
+
+/// What a query weighs at least that is compacted by itself, among so many.
+fn least_size(queries: u64) -> u64
+    ensures { result ≤ LEAST_SIZE }
+{
+    (SMALL_TOGETHER / queries.max(1))
+        .max(FEWEST_NODES)
+        .min(LEAST_SIZE)
 }
 
 /// After how many events the queries are looked at next.

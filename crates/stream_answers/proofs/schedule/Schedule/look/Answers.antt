@@ -5,7 +5,7 @@ use Rattle.query_engine.specs.Engine.{Open}
 use Rattle.query_engine.specs.Sizes.{AreTended}
 use Rattle.stream_answers.specs.declared.schedule.TheConstants.{LEAST_SIZE}
 use Rattle.stream_answers.specs.Schedules.{Plan, IsGoingOn}
-use Rattle.stream_answers.proofs.Growing.{looked_at}
+use Rattle.stream_answers.proofs.Growing.{looked_at, tended_by_more}
 use Rattle.stream_answers.proofs.Windows.{nothing_held, windows_kept}
 use Rattle.stream_answers.proofs.schedule.Schedule.look.Goals as goal
 
@@ -24,7 +24,7 @@ returns-clause-on_time g c = λ events stands dense going.
     let noted = c.compact_grown.new.bases in
     let long : length noted ≡ c.self.inside.bases.len = (let x = c.as_mut_slice-bases.ensures.len in let y = c.compact_grown.auto.bases in omega arith) in
     let is = with_items_is c.self.inside.bases noted long in
-    let tended = subst (λ (held : List Open). AreTended LEAST_SIZE old new events held c.as_mut_slice-bases.result.now noted) (nothing_held c.compact_grown.new.held did.held) (did.tended events stands dense) in
+    let tended = subst (λ (held : List Open). AreTended LEAST_SIZE old new events held c.as_mut_slice-bases.result.now noted) (nothing_held c.compact_grown.new.held did.held) (tended_by_more _ LEAST_SIZE _ _ _ _ _ _ c.least_size.ensures (did.tended events stands dense)) in
     let as_noted = subst (λ (bs : List Size). AreTended LEAST_SIZE old new events [] bases bs) (sym is) (subst (λ (bs : List Size). AreTended LEAST_SIZE old new events [] bs noted) was tended) in
-    looked_at _ _ old new events did.same did.found as_noted (ap length is ∙ did.bases ∙ ap length was) (c.events-self-inside.ensures.length events (did.stands events stands)) (rw c.queries.ensures at c.next_look-self-inside.ensures.next) c.next_look-self-inside.ensures.until
+    looked_at _ _ old new events did.same did.found as_noted (ap length is ∙ did.bases ∙ ap length was) (c.events-self-inside.ensures.length events (did.stands events stands)) (rw c.queries-2.ensures at c.next_look-self-inside.ensures.next) c.next_look-self-inside.ensures.until
     (subst (λ (p : Plan). IsGoingOn p old events) (sym c.self.view_is) going)
